@@ -1,0 +1,4 @@
+pub mod Rounding
+pub mod EntryTest
+pub mod Entries
+pub mod EverySize

@@ -1,0 +1,4 @@
+pub mod Capacity
+pub mod First
+pub mod Powers
+pub mod OneCapacity
