@@ -1,0 +1,6 @@
+pub mod Layout
+pub mod Exponent
+pub mod Ranges
+pub mod Fits
+pub mod BucketStarts
+pub mod Rows
