@@ -1,0 +1,5 @@
+pub mod Answers
+pub mod Checks
+pub mod Passed
+pub mod OneNumber
+pub mod OneAnswer
