@@ -1,0 +1,4 @@
+pub mod FlushKey
+pub mod KeysApart
+pub mod OneAnswer
+pub mod C13
