@@ -1,0 +1,66 @@
+-- `descriptor::put` meets its contract: the bytes that are left, stored in the room as it is, give the room to be. Assumes nothing.
+use mathlib.Core.Path.{_≡_, _∙_}
+use Prim.Native.Nat.{_+_, _≤_}
+use native.Mathlib.Omega.{arith}
+use borrow.Author.Needs.{needs}
+use lib.ListN.{length, length-set}
+use lib.Seq.{sets}
+use Rattle.words.specs.Bytes.{bytesOf}
+use Rattle.descriptor.proofs.Stores.{one-more}
+use Rattle.descriptor.proofs.put.Statement.{statement}
+use Rattle.descriptor.proofs.put.Tie as tie
+
+abbrev Inv-loop : tie.InvT-loop
+Inv-loop room₀ at x count place₀ rest₀ left₀ room place rest left =
+    (length room ≡ length room₀) × (place + left ≤ length room₀) × (sets room place (bytesOf left rest) ≡ sets room₀ at (bytesOf count x))
+
+abbrev μ-loop : tie.MeasureT-loop
+μ-loop room₀ at x count place₀ rest₀ left₀ room place rest left = left
+
+loop-holds : tie.Need-loop-holds Inv-loop μ-loop
+loop-holds c = search needs
+
+cast-room : tie.Need-cast-room Inv-loop μ-loop
+cast-room c = search needs
+
+slice-write-room : tie.Need-slice-write-room Inv-loop μ-loop
+slice-write-room c = search needs
+
+add-place : tie.Need-add-place Inv-loop μ-loop
+add-place c = search needs
+
+sub-left : tie.Need-sub-left Inv-loop μ-loop
+sub-left c = search needs
+
+loop-less : tie.Need-loop-less Inv-loop μ-loop
+loop-less c = search needs
+
+loop-again : tie.Need-loop-again Inv-loop μ-loop
+loop-again c =
+    let i = c .before .loop in
+    (simp length-set (i .inv .0), omega arith, one-more (i .room) (i .place) (i .rest) (i .left) (c .loop-test .taken) ∙ i .inv .2)
+
+same-length : tie.Need-same-length Inv-loop μ-loop
+same-length c = c .before .loop .inv .0
+
+returns : tie.Need-returns Inv-loop μ-loop
+returns c =
+    let i = c .before .loop in
+    let ended : i .left ≡ 0 = omega arith in
+    rw ended at (i .inv .2)
+
+pub put-spec : {M : Type 1} → statement M
+put-spec =
+    tie.close
+    (tie.spec
+    Inv-loop
+    μ-loop
+    loop-holds
+    cast-room
+    slice-write-room
+    add-place
+    sub-left
+    loop-less
+    loop-again
+    same-length
+    returns)

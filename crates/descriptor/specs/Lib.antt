@@ -1,0 +1,9 @@
+pub mod Descriptor
+pub mod Paper
+pub mod Lengths
+pub mod Masks
+pub mod SameFields
+pub mod Accepted
+pub mod RoundTrip
+pub mod OneAnswer
+pub mod Example
