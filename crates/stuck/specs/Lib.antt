@@ -1,0 +1,17 @@
+pub mod Stuck
+pub mod Ring
+pub mod Fill
+pub mod Sets
+pub mod Survives
+pub mod Touching
+pub mod Total
+pub mod TouchCount
+pub mod Plain
+pub mod PlainComplete
+pub mod RemovesAll
+pub mod HowMany
+pub mod FirstFree
+pub mod KeyMap
+pub mod EqualSlots
+pub mod FillAnswers
+pub mod Cases
