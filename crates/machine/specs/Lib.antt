@@ -1,0 +1,17 @@
+pub mod Machine
+pub mod ByHand
+pub mod Order
+pub mod Share
+pub mod Known
+pub mod KnownOf
+pub mod Stack
+pub mod Take
+pub mod Work
+pub mod Standing
+pub mod Start
+pub mod CompleteRun
+pub mod Picks
+pub mod OneAttempt
+pub mod SumsByKey
+pub mod SumsBounded
+pub mod Loop
