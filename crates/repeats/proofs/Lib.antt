@@ -1,0 +1,4 @@
+pub mod FromPlace
+pub mod Copied
+pub mod Exchanged
+pub mod Neighbours
