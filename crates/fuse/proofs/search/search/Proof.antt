@@ -1,0 +1,174 @@
+-- `fuse::search::search` meets its contract: what is to come from attempt i on is the whole search. Assumes nothing.
+use mathlib.Core.Path.{_≡_, refl}
+use Prim.Native.Nat.{_+_, _-_, _≤_}
+use native.Mathlib.Omega.{arith}
+use borrow.Author.Needs.{needs}
+use Rattle.fuse.specs.Attempts.{free}
+use Rattle.fuse.specs.Exact.{CanTry}
+use Rattle.fuse.proofs.Searching.{firstOf, none-left, found-one, go-on, no-hope}
+use Rattle.fuse.proofs.search.search.Statement.{statement}
+use Rattle.fuse.proofs.search.search.Tie as tie
+
+abbrev Inv-loop : tie.InvT-loop
+Inv-loop keys first last lone₀ counts₀ sums₀ positions₀ order₀ starts₀ i₀ lone counts sums positions order starts i =
+    (first ≤ i) × (i ≤ last + 1) × (firstOf (free keys) i last ≡ firstOf (free keys) first last) × CanTry keys lone counts sums positions order starts
+
+abbrev μ-loop : tie.MeasureT-loop
+μ-loop keys first last lone₀ counts₀ sums₀ positions₀ order₀ starts₀ i₀ lone counts sums positions order starts i =
+    last + 1 - i
+
+-- ---- the places, back to the start
+
+abbrev start : tie.At-loop Inv-loop μ-loop → tie.Start Inv-loop μ-loop
+start c = c .before .before .before .before .before .before .before .before
+
+abbrev turn : tie.After-try-attempt Inv-loop μ-loop → tie.Else1 Inv-loop μ-loop
+turn c = c .before .before .before .before .before .before .before
+
+abbrev tried : tie.After-slice-known12 Inv-loop μ-loop → tie.After-try-attempt Inv-loop μ-loop
+tried c = c .before .before .before .before .before .before .before .before .before .before .before .before
+
+abbrev stuck : tie.After-hopeless Inv-loop μ-loop → tie.Else2 Inv-loop μ-loop
+stuck c = c .before .before
+
+abbrev entry : tie.Then3 Inv-loop μ-loop → tie.Start Inv-loop μ-loop
+entry c = start (turn (tried (stuck (c .before .before .before) .before)) .before)
+
+-- ---- the needs
+
+loop-holds : tie.Need-loop-holds Inv-loop μ-loop
+loop-holds c = (omega arith, omega arith, refl, c .before .before .before .before .before .before .before .pre .can-try)
+
+try-attempt-requires : tie.Need-try-attempt-requires Inv-loop μ-loop
+try-attempt-requires c κs = c .before .before .before .before .before .before .before .loop .inv .3
+
+sub-stuck : tie.Need-sub-stuck Inv-loop μ-loop
+sub-stuck c = omega arith
+
+add-stuck : tie.Need-add-stuck Inv-loop μ-loop
+add-stuck c = omega arith
+
+hopeless-requires : tie.Need-hopeless-requires Inv-loop μ-loop
+hopeless-requires c κs = omega arith
+
+add-i : tie.Need-add-i Inv-loop μ-loop
+add-i c = omega arith
+
+loop-less : tie.Need-loop-less Inv-loop μ-loop
+loop-less c = omega arith
+
+loop-again : tie.Need-loop-again Inv-loop μ-loop
+loop-again c =
+    let at : tie.Else2 Inv-loop μ-loop = stuck (c .before .before .before) in
+    let after = tried (at .before) in
+    let now = turn after in (
+      omega arith,
+      omega arith,
+      go-on _ _ _ _ (now .before .loop .inv .2) (now .if1 .left) _ _ _ (after .try-attempt .ensures) (λ all. at .if2 .left all),
+      search needs,
+    )
+
+same-length : tie.Need-same-length Inv-loop μ-loop
+same-length c = omega arith
+
+same-length-2 : tie.Need-same-length-2 Inv-loop μ-loop
+same-length-2 c = omega arith
+
+same-length-3 : tie.Need-same-length-3 Inv-loop μ-loop
+same-length-3 c = omega arith
+
+same-length-4 : tie.Need-same-length-4 Inv-loop μ-loop
+same-length-4 c = omega arith
+
+same-length-5 : tie.Need-same-length-5 Inv-loop μ-loop
+same-length-5 c = omega arith
+
+same-length-6 : tie.Need-same-length-6 Inv-loop μ-loop
+same-length-6 c = omega arith
+
+returns : tie.Need-returns Inv-loop μ-loop
+returns c = none-left _ _ _ _ (c .before .loop .inv .2) _ _ (c .if1 .taken)
+
+same-length-7 : tie.Need-same-length-7 Inv-loop μ-loop
+same-length-7 c = omega arith
+
+same-length-8 : tie.Need-same-length-8 Inv-loop μ-loop
+same-length-8 c = omega arith
+
+same-length-9 : tie.Need-same-length-9 Inv-loop μ-loop
+same-length-9 c = omega arith
+
+same-length-10 : tie.Need-same-length-10 Inv-loop μ-loop
+same-length-10 c = omega arith
+
+same-length-11 : tie.Need-same-length-11 Inv-loop μ-loop
+same-length-11 c = omega arith
+
+same-length-12 : tie.Need-same-length-12 Inv-loop μ-loop
+same-length-12 c = omega arith
+
+returns-2 : tie.Need-returns-2 Inv-loop μ-loop
+returns-2 c =
+    let after = tried (c .before) in
+    let now = turn after in
+    found-one _ _ _ _ (now .before .loop .inv .2) (now .if1 .left) _ _ _ (after .try-attempt .ensures) (c .if2 .taken)
+
+same-length-13 : tie.Need-same-length-13 Inv-loop μ-loop
+same-length-13 c = let asked = entry c .pre in omega arith
+
+same-length-14 : tie.Need-same-length-14 Inv-loop μ-loop
+same-length-14 c = let asked = entry c .pre in omega arith
+
+same-length-15 : tie.Need-same-length-15 Inv-loop μ-loop
+same-length-15 c = let asked = entry c .pre in omega arith
+
+same-length-16 : tie.Need-same-length-16 Inv-loop μ-loop
+same-length-16 c = let asked = entry c .pre in omega arith
+
+same-length-17 : tie.Need-same-length-17 Inv-loop μ-loop
+same-length-17 c = let asked = entry c .pre in omega arith
+
+same-length-18 : tie.Need-same-length-18 Inv-loop μ-loop
+same-length-18 c = let asked = entry c .pre in omega arith
+
+returns-3 : tie.Need-returns-3 Inv-loop μ-loop
+returns-3 c =
+    let asked : tie.After-hopeless Inv-loop μ-loop = c .before .before .before in
+    let now = turn (tried (stuck asked .before)) in
+    no-hope _ _ _ _ _ (now .before .loop .inv .3 .few) (asked .hopeless .ensures (c .if3 .taken))
+
+pub search-spec : {M : Type 1} → statement M
+search-spec =
+    tie.close
+    (tie.spec
+    Inv-loop
+    μ-loop
+    loop-holds
+    try-attempt-requires
+    sub-stuck
+    add-stuck
+    hopeless-requires
+    add-i
+    loop-less
+    loop-again
+    same-length
+    same-length-2
+    same-length-3
+    same-length-4
+    same-length-5
+    same-length-6
+    returns
+    same-length-7
+    same-length-8
+    same-length-9
+    same-length-10
+    same-length-11
+    same-length-12
+    returns-2
+    same-length-13
+    same-length-14
+    same-length-15
+    same-length-16
+    same-length-17
+    same-length-18
+    returns-3)

@@ -1,0 +1,30 @@
+-- Document 01, "Answers": scratch of exactly the lengths that n keys need. A public call lends these parts of what it was lent, so that what
+-- lies beyond is never changed. Assumes nothing.
+use mathlib.Core.Path.{_≡_}
+use mathlib.Core.List.{List, []}
+use Prim.Native.Nat.{ℕ, _+_, _≤_}
+use lib.ListN.{length, replicate}
+use Rattle.capacity.specs.Capacity.{maxKeys}
+use Rattle.layout.specs.Layout.{slotsOf, bucketStartsOf}
+use Rattle.fuse.specs.Memory.{Memory, memory}
+
+pub record Exact (n : ℕ) (lone counts sums positions order starts : List ℕ) : Type 0 where
+  pub lone-length : length lone ≡ slotsOf n
+  pub counts-length : length counts ≡ slotsOf n
+  pub sums-length : length sums ≡ slotsOf n
+  pub positions-length : length positions ≡ n
+  pub order-length : length order ≡ n + 1
+  pub starts-length : length starts ≡ bucketStartsOf n
+
+-- what one attempt asks
+pub record CanTry (keys lone counts sums positions order starts : List ℕ) : Type 0 where
+  pub few : length keys ≤ maxKeys
+  pub exact : Exact (length keys) lone counts sums positions order starts
+
+-- the scratch alone, without fingerprints
+abbrev pub scratch : (lone counts sums positions order starts : List ℕ) → Memory
+scratch = memory []
+
+-- as many zeros
+abbrev pub zeros : List ℕ → List ℕ
+zeros all = replicate (length all) 0

@@ -1,0 +1,17 @@
+pub mod Attempts
+pub mod Query
+pub mod Memory
+pub mod Build
+pub mod Exact
+pub mod Search
+pub mod Demand
+pub mod FreeAttempts
+pub mod FirstFree
+pub mod Checked
+pub mod Demanded
+pub mod QueryMeans
+pub mod AcceptedSlots
+pub mod Finish
+pub mod Endings
+pub mod PutBack
+pub mod ToldApart
