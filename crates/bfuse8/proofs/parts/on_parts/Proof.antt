@@ -1,0 +1,110 @@
+-- `bfuse8::parts::on_parts` meets its contract: the search, its end and the cleared scratch, one after the other. Assumes nothing.
+use mathlib.Core.Path.{_≡_, subst, _∙_}
+use mathlib.Core.List.{List}
+use Prim.Native.Nat.{ℕ}
+use lib.ListN.{length}
+use Rattle.answers.specs.Answers.{Answer}
+use Rattle.fuse.specs.Build.{Success}
+use Rattle.fuse.specs.Exact.{Exact, CanTry}
+use Rattle.fuse.specs.Finish.{Finished}
+use Rattle.fuse.specs.PutBack.{scratch-cleared}
+use borrow.Author.Needs.{needs}
+use Rattle.bfuse8.proofs.parts.on_parts.Statement.{statement}
+use Rattle.bfuse8.proofs.parts.on_parts.Tie as tie
+
+abbrev entry : tie.After-search → tie.Start
+entry c = c .before .before .before .before .before .before .before .before .before .before .before .before .before .before .before
+
+abbrev searched : tie.After-finish → tie.After-search
+searched c = c .before .before .before .before .before .before .before .before .before .before .before .before .before .before .before .before
+
+abbrev finished : tie.After-clear-scratch → tie.After-finish
+finished c = c .before .before .before .before .before .before .before .before .before .before .before
+
+abbrev exact : (c : tie.After-search) → let a = entry c .args in CanTry (a .keys .now) (a .lone .now) (a .counts .now) (a .sums .now) (a .positions .now) (a .order .now) (a .starts .now)
+exact c = entry c .pre .can-search .can-try
+
+-- the attempt found is the first free one
+found-is : {w found first-free : ℕ} {keys before after : List ℕ} {answer : Answer Success} → found ≡ first-free
+    → Finished w keys found answer before after → Finished w keys first-free answer before after
+found-is {w} {keys = keys} {before} {after} {answer} e f = subst (λ (k : ℕ). Finished w keys k answer before after) e f
+
+-- no buffer's length has changed
+still-exact : (c : tie.After-finish) → let s = searched c .search .last in
+    Exact (length (entry (searched c) .args .keys .now)) (s .1 .1 .1 .0) (s .1 .1 .1 .1 .0) (s .1 .1 .1 .1 .1 .0) (s .1 .1 .1 .1 .1 .1 .0)
+    (c .finish .last .1 .1 .1 .1 .0) (s .1 .1 .1 .1 .1 .1 .1 .1 .0)
+still-exact c =
+    let s = searched c .search .kept in
+    let e = exact (searched c) .exact in
+    record {
+      lone-length = s .1 .1 .1 .0 ∙ e .lone-length;
+      counts-length = s .1 .1 .1 .1 .0 ∙ e .counts-length;
+      sums-length = s .1 .1 .1 .1 .1 .0 ∙ e .sums-length;
+      positions-length = s .1 .1 .1 .1 .1 .1 .0 ∙ e .positions-length;
+      order-length = c .finish .kept .1 .1 .1 .1 .0 ∙ s .1 .1 .1 .1 .1 .1 .1 .0 ∙ e .order-length;
+      starts-length = s .1 .1 .1 .1 .1 .1 .1 .1 .0 ∙ e .starts-length;
+    }
+
+search-requires : tie.Need-search-requires
+search-requires c κs = search needs
+
+finish-requires : tie.Need-finish-requires
+finish-requires c κs =
+    let s : tie.After-search = c .before .before .before .before .before .before .before .before .before .before .before .before .before .before .before in
+    record {
+      few = exact s .few;
+      fingerprints-length = entry s .pre .fingerprints-length;
+      positions-length = s .search .kept .1 .1 .1 .1 .1 .1 .0 ∙ exact s .exact .positions-length;
+      order-length = s .search .kept .1 .1 .1 .1 .1 .1 .1 .0 ∙ exact s .exact .order-length;
+      there = s .search .ensures .there;
+    }
+
+clear-scratch-requires : tie.Need-clear-scratch-requires
+clear-scratch-requires c κs = search needs
+
+same-length : tie.Need-same-length
+same-length c = search needs
+
+same-length-2 : tie.Need-same-length-2
+same-length-2 c = search needs
+
+same-length-3 : tie.Need-same-length-3
+same-length-3 c = search needs
+
+same-length-4 : tie.Need-same-length-4
+same-length-4 c = search needs
+
+same-length-5 : tie.Need-same-length-5
+same-length-5 c = search needs
+
+same-length-6 : tie.Need-same-length-6
+same-length-6 c = search needs
+
+same-length-7 : tie.Need-same-length-7
+same-length-7 c = search needs
+
+returns : tie.Need-returns
+returns c =
+    let cleared : tie.After-clear-scratch = c .before .before .before .before .before .before .before .before .before .before .before .before in
+    let ended : tie.After-finish = finished cleared in
+    let s : tie.After-search = searched ended in
+    record {
+      finished = found-is (s .search .ensures .is) (ended .finish .ensures);
+      cleared = scratch-cleared (still-exact ended) _ (cleared .clear-scratch .ensures);
+    }
+
+pub on-parts-spec : {M : Type 1} → statement M
+on-parts-spec =
+    tie.close
+    (tie.spec
+    search-requires
+    finish-requires
+    clear-scratch-requires
+    same-length
+    same-length-2
+    same-length-3
+    same-length-4
+    same-length-5
+    same-length-6
+    same-length-7
+    returns)

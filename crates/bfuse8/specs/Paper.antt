@@ -1,0 +1,10 @@
+-- The paper's reading of what a build answers: document 01's number for each refusal, and for a success the descriptor, A and the attempt
+-- number. Assumes nothing.
+use Rattle.answers.specs.Answers.{numberOf, Answer, refuses, gives}
+use Rattle.fuse.specs.Build.{Success, success}
+use Rattle.bfuse8.specs.declared.BuildAnswer.{BuildAnswer}
+use Rattle.bfuse8.specs.declared.BuildAnswer.the-variants.{Built, Refused}
+
+abbrev pub paper : BuildAnswer → Answer Success
+paper (Built d slots attempt) = gives (success d slots attempt)
+paper (Refused why) = refuses (numberOf why)

@@ -1,0 +1,75 @@
+// `BinaryFuse8` of the Rust: a list of keys is packed into fingerprints of 8 bits, on lent buffers.
+mod parts;
+
+ghost use mathlib.Core.Path.{_≡_};
+ghost use Rattle.answers.specs.Answers.{outcome};
+ghost use Rattle.fuse.specs.Memory.{memory};
+ghost use Rattle.fuse.specs.Build.{buildOf, attemptOf};
+ghost use Rattle.fuse.specs.Demand.{Demand3};
+ghost use Rattle.bfuse8.specs.Paper.{paper};
+use answers::Refusal;
+use descriptor::Descriptor;
+
+pub enum BuildAnswer {
+    // The descriptor, A, and the number of the attempt.
+    Built(Descriptor, u32, u32),
+    Refused(Refusal),
+}
+
+// The list of the first of the attempts 1 to `limit` without a stuck set.
+pub fn build(
+    keys: &[u64],
+    limit: u32,
+    fingerprints: &mut [u8],
+    lone: &mut [u32],
+    counts: &mut [u16],
+    sums: &mut [u64],
+    positions: &mut [u8],
+    order: &mut [u64],
+    starts: &mut [u32],
+) -> BuildAnswer
+    ensures { λ r. ⌜ outcome (paper r) (memory (now (fingerprints .exit)) (now (lone .exit)) (now (counts .exit)) (now (sums .exit)) (now (positions .exit)) (now (order .exit)) (now (starts .exit))) ≡ buildOf 8 (now (keys .entry)) limit (memory (now (fingerprints .entry)) (now (lone .entry)) (now (counts .entry)) (now (sums .entry)) (now (positions .entry)) (now (order .entry)) (now (starts .entry))) ⌝ }
+    ensures { λ r. ⌜ Demand3 8 (now (keys .entry)) 1 limit (memory (now (fingerprints .entry)) (now (lone .entry)) (now (counts .entry)) (now (sums .entry)) (now (positions .entry)) (now (order .entry)) (now (starts .entry))) (paper r) (now (fingerprints .exit)) ⌝ }
+{
+    parts::within(
+        keys,
+        1,
+        limit,
+        fingerprints,
+        lone,
+        counts,
+        sums,
+        positions,
+        order,
+        starts,
+    )
+}
+
+// The same of one attempt, by its number.
+pub fn attempt(
+    keys: &[u64],
+    number: u32,
+    fingerprints: &mut [u8],
+    lone: &mut [u32],
+    counts: &mut [u16],
+    sums: &mut [u64],
+    positions: &mut [u8],
+    order: &mut [u64],
+    starts: &mut [u32],
+) -> BuildAnswer
+    ensures { λ r. ⌜ outcome (paper r) (memory (now (fingerprints .exit)) (now (lone .exit)) (now (counts .exit)) (now (sums .exit)) (now (positions .exit)) (now (order .exit)) (now (starts .exit))) ≡ attemptOf 8 (now (keys .entry)) number (memory (now (fingerprints .entry)) (now (lone .entry)) (now (counts .entry)) (now (sums .entry)) (now (positions .entry)) (now (order .entry)) (now (starts .entry))) ⌝ }
+    ensures { λ r. ⌜ Demand3 8 (now (keys .entry)) number number (memory (now (fingerprints .entry)) (now (lone .entry)) (now (counts .entry)) (now (sums .entry)) (now (positions .entry)) (now (order .entry)) (now (starts .entry))) (paper r) (now (fingerprints .exit)) ⌝ }
+{
+    parts::within(
+        keys,
+        number,
+        number,
+        fingerprints,
+        lone,
+        counts,
+        sums,
+        positions,
+        order,
+        starts,
+    )
+}
