@@ -1,0 +1,48 @@
+-- `c_api::gp_flush_key` meets its contract: the key is written where there is one, and else the refusal told. Assumes nothing.
+use mathlib.Core.Path.{_≡_, sym, ap, _∙_}
+use Prim.Native.Nat.{ℕ}
+use mir.Facts.{toZ-ofZ}
+use denote.Ref.{now}
+use Rattle.answers.specs.Answers.{Answer}
+use Rattle.flush.specs.declared.KeyAnswer.{KeyAnswer}
+use Rattle.flush.specs.FlushKey.{flushKeyOf, paper}
+use Rattle.c_api.specs.KeyTold.{keyTold, toldKey}
+use borrow.Author.Needs.{needs}
+use Rattle.c_api.proofs.gp_flush_key.Statement.{statement}
+use Rattle.c_api.proofs.gp_flush_key.Tie as tie
+
+flush-key-requires : tie.Need-flush-key-requires
+flush-key-requires c κs = search needs
+
+enum-known-answer : tie.Need-enum-known-answer
+enum-known-answer c = search needs
+
+enum-known-answer-2 : tie.Need-enum-known-answer-2
+enum-known-answer-2 c = search needs
+
+code-requires : tie.Need-code-requires
+code-requires c κs = search needs
+
+-- what is told and left where `flush_key` answered so
+answer : (c : tie.After-flush-key) (answered : KeyAnswer) → answered ≡ c .flush-key .result → let a = c .before .args in
+    toldKey (paper answered) (now (a .key)) ≡ toldKey (flushKeyOf (a .unit) (a .valve) (a .seconds)) (now (a .key))
+answer c answered e = ap (λ (told : Answer ℕ). toldKey told (now (c .before .args .key))) (ap paper e ∙ rw (toZ-ofZ (c .before .fits .seconds)) at (c .flush-key .ensures))
+
+returns : tie.Need-returns
+returns c = answer (c .before .before .before) _ (sym (c .before .answer .given .1))
+
+returns-2 : tie.Need-returns-2
+returns-2 c =
+    ap (λ (code : ℕ). keyTold code (now (c .before .before .before .before .before .args .key))) (c .code .ensures)
+    ∙ answer (c .before .before .before .before) _ (sym (c .before .before .answer2 .given .1))
+
+pub gp-flush-key-spec : {M : Type 1} → statement M
+gp-flush-key-spec =
+    tie.close
+    (tie.spec
+    flush-key-requires
+    enum-known-answer
+    enum-known-answer-2
+    code-requires
+    returns
+    returns-2)

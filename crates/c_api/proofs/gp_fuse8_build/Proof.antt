@@ -1,0 +1,170 @@
+-- `c_api::gp_fuse8_build` meets its contract: what C is told is the outcome of `bfuse8::build`, and an accepted descriptor is written. Assumes nothing.
+use mathlib.Core.Path.{_≡_, sym, ap, _∙_}
+use Prim.Native.Nat.{ℕ, _+_, _≤_}
+use native.Mathlib.Omega.{arith}
+use lib.ListN.{length, take}
+use borrow.Author.Tests.{lt-ltb}
+use Rattle.answers.specs.OneNumber.{up-to-twelve}
+use Rattle.bfuse8.specs.declared.BuildAnswer.{BuildAnswer}
+use Rattle.bfuse8.specs.Paper.{paper}
+use Rattle.descriptor.specs.Descriptor.{descriptorSize}
+use Rattle.fuse.specs.Memory.{Memory, memory}
+use Rattle.c_api.specs.BuildTold.{buildTold, toldBuilt, toldBuild}
+use Rattle.c_api.proofs.BuildsTold.{told-build, written}
+use borrow.Author.Needs.{needs}
+use Rattle.c_api.proofs.gp_fuse8_build.Statement.{statement}
+use Rattle.c_api.proofs.gp_fuse8_build.Tie as tie
+
+-- ---- the places, back to the start
+
+abbrev entry : tie.Else1 → tie.Start
+entry c = c .before .before .before .before .before .before .before .before .before .before
+
+abbrev checked : tie.After-build → tie.Else1
+checked c = c .before .before .before .before .before .before .before .before
+
+abbrev built : tie.After-answer → tie.After-build
+built c = c .before .before .before .before .before .before .before .before .before .before .before .before .before .before .before .before
+
+abbrev refused : tie.After-answer2 → tie.After-build
+refused c = c .before .before .before .before .before .before .before .before .before .before .before .before .before .before .before .before
+
+long : (c : tie.Else1) → descriptorSize ≤ length (entry c .args .descriptor .now)
+long c = c .if1 .left
+
+-- what was lent but for the descriptor's room, at entry and after the build
+abbrev lent : tie.Start → Memory
+lent e =
+    memory (e .args .fingerprints .now) (e .args .lone .now) (e .args .counts .now) (e .args .sums .now) (e .args .positions .now) (e .args .order .now)
+    (e .args .starts .now)
+
+abbrev left : tie.After-build → Memory
+left c =
+    let after = c .build .last in
+    memory (after .1 .1 .0) (after .1 .1 .1 .0) (after .1 .1 .1 .1 .0) (after .1 .1 .1 .1 .1 .0) (after .1 .1 .1 .1 .1 .1 .0) (after .1 .1 .1 .1 .1 .1 .1 .0)
+    (after .1 .1 .1 .1 .1 .1 .1 .1 .0)
+
+-- from the enum's case to the definition
+told : (c : tie.After-build) (answer : BuildAnswer) → c .build .result ≡ answer → let e = entry (checked c) in
+    toldBuilt (paper answer) (left c) (e .args .descriptor .now) ≡ toldBuild 8 (e .args .keys .now) (e .args .limit) (lent e) (e .args .descriptor .now)
+told c answer is =
+    let e = entry (checked c) in
+    ap (λ (x : BuildAnswer). toldBuilt (paper x) (left c) (e .args .descriptor .now)) (sym is)
+    ∙ told-build 8 (e .args .keys .now) (e .args .limit) (lent e) (e .args .descriptor .now) (long (checked c)) (c .build .ensures .0)
+
+-- ---- the needs
+
+add-result : tie.Need-add-result
+add-result c = search needs
+
+returns : tie.Need-returns
+returns c = simp (lt-ltb _ _ (c .if1 .taken))
+
+build-requires : tie.Need-build-requires
+build-requires c κs = search needs
+
+enum-known-answer : tie.Need-enum-known-answer
+enum-known-answer c = search needs
+
+write-requires : tie.Need-write-requires
+write-requires c κs = search needs
+
+enum-known-answer-2 : tie.Need-enum-known-answer-2
+enum-known-answer-2 c = search needs
+
+number-requires : tie.Need-number-requires
+number-requires c κs = search needs
+
+add-result-2 : tie.Need-add-result-2
+add-result-2 c = omega (arith, c .number .ensures, up-to-twelve (c .before .before .answer2 .given .0 .0))
+
+same-length : tie.Need-same-length
+same-length c = search needs
+
+same-length-2 : tie.Need-same-length-2
+same-length-2 c = search needs
+
+same-length-3 : tie.Need-same-length-3
+same-length-3 c = search needs
+
+same-length-4 : tie.Need-same-length-4
+same-length-4 c = search needs
+
+same-length-5 : tie.Need-same-length-5
+same-length-5 c = search needs
+
+same-length-6 : tie.Need-same-length-6
+same-length-6 c = search needs
+
+same-length-7 : tie.Need-same-length-7
+same-length-7 c = search needs
+
+same-length-8 : tie.Need-same-length-8
+same-length-8 c = search needs
+
+returns-2 : tie.Need-returns-2
+returns-2 c =
+    let w : tie.After-write = c .before .before in
+    let a : tie.After-answer = w .before .before .before in
+    let b = built a in
+    let is = a .answer .given .1 in
+    let room = entry (checked b) .args .descriptor .now in
+    let slots = a .answer .given .0 .1 .0 in
+    ap (buildTold _ (left b)) (written _ (take slots (left b .fingerprints)) room (b .build .ensures .1 .accepted _ (ap paper is)) (long (checked b)) (w .write .ensures)) ∙ told b _ is
+
+same-length-9 : tie.Need-same-length-9
+same-length-9 c = search needs
+
+same-length-10 : tie.Need-same-length-10
+same-length-10 c = search needs
+
+same-length-11 : tie.Need-same-length-11
+same-length-11 c = search needs
+
+same-length-12 : tie.Need-same-length-12
+same-length-12 c = search needs
+
+same-length-13 : tie.Need-same-length-13
+same-length-13 c = search needs
+
+same-length-14 : tie.Need-same-length-14
+same-length-14 c = search needs
+
+same-length-15 : tie.Need-same-length-15
+same-length-15 c = search needs
+
+returns-3 : tie.Need-returns-3
+returns-3 c =
+    let a : tie.After-answer2 = c .before .before in
+    let b = refused a in
+    ap (λ (x : ℕ). buildTold (65536 + x) (left b) (entry (checked b) .args .descriptor .now)) (c .number .ensures) ∙ told b _ (a .answer2 .given .1)
+
+pub gp-fuse8-build-spec : {M : Type 1} → statement M
+gp-fuse8-build-spec =
+    tie.close
+    (tie.spec
+    add-result
+    returns
+    build-requires
+    enum-known-answer
+    write-requires
+    enum-known-answer-2
+    number-requires
+    add-result-2
+    same-length
+    same-length-2
+    same-length-3
+    same-length-4
+    same-length-5
+    same-length-6
+    same-length-7
+    same-length-8
+    returns-2
+    same-length-9
+    same-length-10
+    same-length-11
+    same-length-12
+    same-length-13
+    same-length-14
+    same-length-15
+    returns-3)

@@ -1,0 +1,15 @@
+-- Document 01, "Flush key" and answer 12, for a C program: what it is told, and what its key then holds. Assumes nothing.
+use Prim.Native.Nat.{ℕ, _+_}
+use Rattle.answers.specs.Answers.{Answer, refuses, gives}
+
+pub record KeyTold : Type 0 where
+  pub code : ℕ
+  pub key : ℕ
+
+abbrev pub keyTold : ℕ → ℕ → KeyTold
+keyTold code key = record { code = code; key = key }
+
+-- 0 and the key; or 16 plus the refusal's number, and the key as it was
+abbrev pub toldKey : Answer ℕ → (before : ℕ) → KeyTold
+toldKey (gives key) before = keyTold 0 key
+toldKey (refuses number) before = keyTold (16 + number) before

@@ -1,0 +1,3 @@
+pub mod KeyTold
+pub mod BuildTold
+pub mod OneAnswer

@@ -1,0 +1,141 @@
+/*
+ * What a valve controller does with a list of due flushes: it holds the list in static memory, and each hour asks it for each of
+ * its valves. Its clock wakes at zero after a power loss, and local time is ten hours behind the clock.
+ *
+ * usage: controller              builds a small list of its own
+ *        controller LIST         reads a packed list: the 20 descriptor bytes and then the fingerprints
+ *        controller --save LIST  builds the small list, and writes it too
+ *
+ * Ends with 0, with 1 if the list is refused, or with 2 if a file can't be read or written.
+ */
+#include "gillpocketry.h"
+
+#include <stdio.h>
+#include <string.h>
+
+enum { UNIT = 7, VALVES = 4, HOURS = 15, OWN_FLUSHES = 7 };
+enum { SECONDS_OF_HOUR = 3600, LOCAL_TIME = -10 * SECONDS_OF_HOUR };
+
+/* The list as it comes from a file; one byte more, to see that a file is too long. */
+static uint8_t list[GP_DESCRIPTOR_BYTES + GP_MAX_SLOTS + 1];
+static size_t list_length;
+
+/* ---- A list of its own ---- */
+
+/* Lengths and scratch for a build of just these flushes. */
+enum { SLOTS = GP_SLOTS_UP_TO(OWN_FLUSHES), STARTS = GP_STARTS_UP_TO(OWN_FLUSHES) };
+static uint64_t keys[OWN_FLUSHES], sums[SLOTS], order[OWN_FLUSHES + 1];
+static uint32_t lone[SLOTS], starts[STARTS];
+static uint16_t counts[SLOTS];
+static uint8_t positions[OWN_FLUSHES];
+
+static int build_own_list(void) {
+    static const struct {
+        uint8_t valve;
+        int hour;
+    } flushes[OWN_FLUSHES] = {{0, 0}, {2, 0}, {1, 1}, {0, 2}, {3, 2}, {1, 4}, {2, 4}};
+    uint8_t *fingerprints = list + GP_DESCRIPTOR_BYTES;
+    uint32_t answer;
+    size_t i;
+    for (i = 0; i < OWN_FLUSHES; i++) {
+        answer = gp_flush_key(UNIT, flushes[i].valve, (int64_t)flushes[i].hour * SECONDS_OF_HOUR, &keys[i]);
+        if (answer != 0) {
+            printf("flush %u has no key: refused with %u\n", (unsigned)i, (unsigned)(answer - GP_REFUSED));
+            return 1;
+        }
+    }
+    answer = gp_fuse8_build(keys, OWN_FLUSHES, GP_MAX_ATTEMPTS, fingerprints, SLOTS, lone, SLOTS, counts, SLOTS, sums, SLOTS,
+                            positions, OWN_FLUSHES, order, OWN_FLUSHES + 1, starts, STARTS, list, GP_DESCRIPTOR_BYTES);
+    if (answer > GP_BUILD_REFUSED) {
+        printf("no list is built: refused with %u\n", (unsigned)(answer - GP_BUILD_REFUSED));
+        return 1;
+    }
+    list_length = GP_DESCRIPTOR_BYTES + GP_SLOTS_OF(list);
+    printf("built a list of %d flushes in %u bytes, at attempt %u\n", OWN_FLUSHES, (unsigned)list_length, (unsigned)answer);
+    return 0;
+}
+
+/* ---- Files ---- */
+
+static int read_list(const char *name) {
+    FILE *file = fopen(name, "rb");
+    if (file == NULL) {
+        perror(name);
+        return 2;
+    }
+    list_length = fread(list, 1, sizeof list, file);
+    if (ferror(file)) {
+        perror(name);
+        fclose(file);
+        return 2;
+    }
+    fclose(file);
+    printf("read a list of %u bytes%s\n", (unsigned)list_length, list_length == sizeof list ? " or more" : "");
+    return 0;
+}
+
+static int save_list(const char *name) {
+    FILE *file = fopen(name, "wb");
+    size_t written = file == NULL ? 0 : fwrite(list, 1, list_length, file);
+    if (file == NULL || fclose(file) != 0 || written != list_length) {
+        perror(name);
+        return 2;
+    }
+    return 0;
+}
+
+/* ---- The hours ---- */
+
+static uint32_t ask(uint64_t key) {
+    size_t descriptor_length = list_length < GP_DESCRIPTOR_BYTES ? list_length : GP_DESCRIPTOR_BYTES;
+    return gp_fuse8_contains(list, descriptor_length, list + descriptor_length, list_length - descriptor_length, key);
+}
+
+/* A damaged or cut list is refused whatever it is asked, so one question before the first hour is enough. */
+static int accept_list(void) {
+    uint32_t answer = ask(0);
+    if (answer >= GP_REFUSED) {
+        printf("this is no list: refused with %u\n", (unsigned)(answer - GP_REFUSED));
+        return 1;
+    }
+    return 0;
+}
+
+static void watch_hour(int hour) {
+    int64_t seconds = (int64_t)hour * SECONDS_OF_HOUR;
+    int any_due = 0;
+    unsigned valve;
+    printf("local hour %3d:", hour);
+    for (valve = 0; valve < VALVES; valve++) {
+        uint64_t key;
+        uint32_t answer = gp_flush_key(UNIT, (uint8_t)valve, seconds, &key);
+        if (answer != 0) {
+            printf(" no flush keys, refused with %u\n", (unsigned)(answer - GP_REFUSED));
+            return;
+        }
+        if (ask(key) == GP_YES) {
+            printf("%s %u", any_due ? "," : " would flush valve", valve);
+            any_due = 1;
+        }
+    }
+    puts(any_due ? "" : " nothing due");
+}
+
+int main(int count, char **words) {
+    int status, hour, saving = count == 3 && strcmp(words[1], "--save") == 0;
+    if (count > 2 && !saving) {
+        fputs("usage: controller [LIST | --save LIST]\n", stderr);
+        return 2;
+    }
+    status = count == 2 ? read_list(words[1]) : build_own_list();
+    if (status == 0 && saving) {
+        status = save_list(words[2]);
+    }
+    if (status == 0) {
+        status = accept_list();
+    }
+    for (hour = 0; hour < HOURS && status == 0; hour++) {
+        watch_hour(hour + LOCAL_TIME / SECONDS_OF_HOUR);
+    }
+    return status;
+}
