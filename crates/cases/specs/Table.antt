@@ -1,0 +1,66 @@
+-- Document 01, "Cases": C1 to C13, proved of the definitions, in one table under one statement. Assumes nothing.
+use mathlib.Core.Path.{_≡_, refl}
+use mathlib.Core.List.{List, [], _∷_}
+use Prim.Native.Nat.{ℕ, _+_, _-_, _^_}
+use lib.IntN.{ℤ, pos}
+use Rattle.arith.specs.Steps.{xorshift, times}
+use Rattle.arith.specs.Murmur3.{mix64Of}
+use Rattle.arith.specs.Fingerprint.{fingerprintOf}
+use Rattle.arith.specs.Slots.{slot0, slot1, slot2, slotsOf}
+use Rattle.layout.specs.declared.Layout.{Layout}
+use Rattle.layout.specs.Rows.{Row, laid, rows}
+use Rattle.answers.specs.Answers.{gives}
+use Rattle.flush.specs.FlushKey.{keyAtHour, flushKeyOf}
+use Rattle.stuck.specs.Stuck.{Slots, everyKey, Stuck, NoneStuck}
+use Rattle.stuck.specs.Cases.{at, C10-holds, C11-holds, C12-holds}
+
+-- what is asked of the definitions, and the paper's answer
+pub data Case : Type 0 where
+  slots : (hash : ℕ) → List ℕ → Case  -- with L 4, count length 4
+  fingerprint : (hash : ℕ) → ℕ → Case
+  mix64 : (key : ℕ) → ℕ → Case
+  row : (n c : ℕ) → (plain second : Layout) → Case
+  stuck : List Slots → Case
+  not-stuck : List Slots → Case
+  flush : (unit valve : ℕ) → (seconds : ℤ) → ℕ → Case
+
+abbrev pub Holds : Case → Type 0
+Holds (slots hash three) = slotsOf hash 4 3 4 ≡ three
+Holds (fingerprint hash f) = fingerprintOf 8 hash ≡ f
+Holds (mix64 key mixed) = mix64Of key ≡ mixed
+Holds (row n c plain second) = Row n c plain second
+Holds (stuck keys) = Stuck keys (everyKey keys)
+Holds (not-stuck keys) = NoneStuck keys
+Holds (flush unit valve seconds key) = flushKeyOf unit valve seconds ≡ gives key
+
+-- every case of a list holds
+infixr 20 _and_
+pub data All : List Case → Type 0 where
+  no-more : All []
+  _and_ : {c : Case} {cs : List Case} → Holds c → All cs → All (c ∷ cs)
+
+-- C1 to C5, C6 and C7, C8, C9 (three rows), C10 to C12, C13
+abbrev pub table : List Case
+table =
+    slots 0 (0 ∷ 4 ∷ 8 ∷ [])
+    ∷ slots 1 (0 ∷ 4 ∷ 9 ∷ [])
+    ∷ slots (2 ^ 18) (0 ∷ 5 ∷ 8 ∷ [])
+    ∷ slots (2 ^ 63) (2 ∷ 6 ∷ 10 ∷ [])
+    ∷ slots (2 ^ 64 - 1) (3 ∷ 4 ∷ 8 ∷ [])
+    ∷ fingerprint (2 ^ 32) 1
+    ∷ fingerprint (2 ^ 32 + 1) 0
+    ∷ mix64 0 0
+    ∷ row 0 0 (laid 4 1 4 12) (laid 4 1 4 12)
+    ∷ row 2 12 (laid 4 1 4 12) (laid 4 1 4 12)
+    ∷ row 5 15 (laid 8 1 8 24) (laid 4 4 16 24)
+    ∷ stuck (at 0 4 8 ∷ at 0 4 8 ∷ [])
+    ∷ stuck (at 0 4 8 ∷ at 0 5 8 ∷ at 0 4 9 ∷ at 0 5 9 ∷ [])
+    ∷ not-stuck (at 0 4 8 ∷ at 0 5 8 ∷ at 0 4 9 ∷ [])
+    ∷ flush 1 2 (pos 7199) (2 ^ 48 + 2 ^ 41 + 1)
+    ∷ []
+
+pub cases : All table
+unfolding slot0 slot1 slot2 mix64Of fingerprintOf xorshift times flushKeyOf keyAtHour
+cases =
+    refl and refl and refl and refl and refl and refl and refl and refl
+    and rows .at-0 and rows .at-2 and rows .at-5 and C10-holds and C11-holds and C12-holds and refl and no-more
