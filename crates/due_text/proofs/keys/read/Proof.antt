@@ -1,0 +1,141 @@
+-- `due_text::keys::read` meets its contract: each key read has a place in the room. Assumes nothing.
+use Prim.Native.Nat.{_-_, _≤_}
+use mathlib.Core.Path.{_≡_, sym}
+use borrow.Author.Needs.{needs}
+use native.Mathlib.Omega.{arith}
+use mathlib.Core.Logic.{⊎-elim}
+use lib.ListN.{length, length-set}
+use lib.Seq.{length-take-le}
+use Rattle.due_text.proofs.keys.read.Statement.{statement}
+use Rattle.due_text.proofs.keys.read.Tie as tie
+
+abbrev Inv-loop : tie.InvT-loop
+Inv-loop text room₀ at₀ number₀ count₀ room at number count =
+    (number ≤ at) × (at ≤ length text) × (count ≤ length room) × (length room ≡ length room₀)
+
+abbrev μ-loop : tie.MeasureT-loop
+μ-loop text room₀ at₀ number₀ count₀ room at number count = length text - at
+
+-- where a line's ways meet, each key read still has its place
+at-match : (c : tie.At-match-came Inv-loop μ-loop)
+    → (c .match .count ≤ length (c .match .room)) × (length (c .match .room) ≡ length (c .before .before .before .before .before .before .before .before .args .room .now))
+at-match c =
+    let h = c .before .before .before .before .before in
+    ⊎-elim (λ w. rw (w .2, w .3) (h .loop .inv .2, h .loop .inv .3))
+    (λ w. rw (w .6, w .7) (simp length-set (omega arith), simp length-set (h .loop .inv .3)))
+    (c .match .came)
+
+loop-holds : tie.Need-loop-holds Inv-loop μ-loop
+loop-holds c = search needs
+
+find-requires : tie.Need-find-requires Inv-loop μ-loop
+find-requires c κs = search needs
+
+add-number : tie.Need-add-number Inv-loop μ-loop
+add-number c = search needs
+
+sub-read : tie.Need-sub-read Inv-loop μ-loop
+sub-read c = search needs
+
+part-read-start : tie.Need-part-read-start Inv-loop μ-loop
+part-read-start c = search needs
+
+part-read-end : tie.Need-part-read-end Inv-loop μ-loop
+part-read-end c = search needs
+
+read-requires : tie.Need-read-requires Inv-loop μ-loop
+read-requires c κs = search needs
+
+enum-told : tie.Need-enum-told Inv-loop μ-loop
+enum-told c = search needs
+
+enum-known-said : tie.Need-enum-known-said Inv-loop μ-loop
+enum-known-said c = search needs
+
+same-length : tie.Need-same-length Inv-loop μ-loop
+same-length c = search needs
+
+returns : tie.Need-returns Inv-loop μ-loop
+returns c = search needs
+
+slice-reshare-prefix-listed : tie.Need-slice-reshare-prefix-listed Inv-loop μ-loop
+slice-reshare-prefix-listed c = search needs
+
+slice-aggregate-listed : tie.Need-slice-aggregate-listed Inv-loop μ-loop
+slice-aggregate-listed c = sym (length-take-le _ _ (search needs))
+
+listed-requires : tie.Need-listed-requires Inv-loop μ-loop
+listed-requires c κs = search needs
+
+same-length-2 : tie.Need-same-length-2 Inv-loop μ-loop
+same-length-2 c = search needs
+
+returns-2 : tie.Need-returns-2 Inv-loop μ-loop
+returns-2 c = search needs
+
+mul-room : tie.Need-mul-room Inv-loop μ-loop
+mul-room c = search needs
+
+slice-write-room : tie.Need-slice-write-room Inv-loop μ-loop
+slice-write-room c = search needs
+
+add-count : tie.Need-add-count Inv-loop μ-loop
+add-count c = search needs
+
+enum-known-said-2 : tie.Need-enum-known-said-2 Inv-loop μ-loop
+enum-known-said-2 c = search needs
+
+same-length-3 : tie.Need-same-length-3 Inv-loop μ-loop
+same-length-3 c = search needs
+
+returns-3 : tie.Need-returns-3 Inv-loop μ-loop
+returns-3 c = search needs
+
+past-requires : tie.Need-past-requires Inv-loop μ-loop
+past-requires c κs = search needs
+
+loop-less : tie.Need-loop-less Inv-loop μ-loop
+loop-less c = search needs
+
+loop-again : tie.Need-loop-again Inv-loop μ-loop
+loop-again c = (omega arith, search needs, at-match (c .before) .0, at-match (c .before) .1)
+
+same-length-4 : tie.Need-same-length-4 Inv-loop μ-loop
+same-length-4 c = search needs
+
+returns-4 : tie.Need-returns-4 Inv-loop μ-loop
+returns-4 c = search needs
+
+pub read-spec : {M : Type 1} → statement M
+read-spec =
+    tie.close
+    (tie.spec
+    Inv-loop
+    μ-loop
+    loop-holds
+    find-requires
+    add-number
+    sub-read
+    part-read-start
+    part-read-end
+    read-requires
+    enum-told
+    enum-known-said
+    same-length
+    returns
+    slice-reshare-prefix-listed
+    slice-aggregate-listed
+    listed-requires
+    same-length-2
+    returns-2
+    mul-room
+    slice-write-room
+    add-count
+    enum-known-said-2
+    same-length-3
+    returns-3
+    past-requires
+    loop-less
+    loop-again
+    same-length-4
+    returns-4)

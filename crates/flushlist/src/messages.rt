@@ -1,0 +1,78 @@
+// What went wrong, in words, on standard error.
+use crate::print;
+use answers::Refusal;
+use due_text::line::Fault;
+
+pub fn usage() {
+    print::error(
+        b"flushlist pack TEXT LIST                packs the due flushes of TEXT into LIST\n",
+    );
+    print::error(b"flushlist ask LIST UNIT VALVE SECONDS   says whether that flush is due\n");
+    print::error(b"flushlist ask LIST KEY                  the same of a plain key\n");
+    print::error(
+        b"flushlist                               packs due.txt into due.list and asks it\n",
+    );
+}
+
+// What is wrong with a line, by its number.
+pub fn bad_line(number: usize, why: Fault) {
+    print::error(b"line ");
+    print::error_number(number as u64);
+    print::error(b": ");
+    fault(why);
+}
+
+pub fn fault(why: Fault) {
+    match why {
+        Fault::NotNumber => print::error(b"not a number\n"),
+        Fault::WordCount => print::error(b"neither one word nor three\n"),
+        Fault::UnitAbove => print::error(b"unit above 65535\n"),
+        Fault::ValveAbove => print::error(b"valve above 255\n"),
+        Fault::ClockBeyond => print::error(b"seconds beyond 63 bits\n"),
+        Fault::KeyAbove => print::error(b"key above 18446744073709551615\n"),
+        Fault::Refused(why) => refused(why),
+        Fault::TooManyKeys => print::error(b"more than 4096 keys\n"),
+    }
+}
+
+// Why a list was refused, by its name.
+pub fn refused_list(list: &[u8], why: Refusal) {
+    print::error(list);
+    print::error(b": ");
+    refused(why);
+}
+
+// A refusal by its number, and when it is given.
+pub fn refused(why: Refusal) {
+    print::error(b"refused ");
+    print::error_number(answers::number(why) as u64);
+    print::error(b": ");
+    reason(why);
+    print::error(b"\n");
+}
+
+fn reason(why: Refusal) {
+    match why {
+        Refusal::TooManyKeys => print::error(b"more than 4096 keys"),
+        Refusal::AttemptOutOfRange => print::error(b"attempt limit or number outside 1..1000"),
+        Refusal::ShortFingerprints => print::error(b"too little room for the fingerprints"),
+        Refusal::ShortScratch => print::error(b"a scratch buffer is too short"),
+        Refusal::RepeatedKeys => print::error(b"two keys are equal"),
+        Refusal::Stuck => print::error(b"every allowed attempt has a stuck set"),
+        Refusal::Clock => print::error(b"clock below zero, or hour above 2^39 - 1"),
+        _ => of_list(why),
+    }
+}
+
+// Why a list is refused.
+fn of_list(why: Refusal) {
+    match why {
+        Refusal::ShortDescriptor => print::error(b"fewer than 20 bytes of descriptor"),
+        Refusal::SegmentLength => print::error(b"segment length no power of two in 4..262144"),
+        Refusal::Mask => print::error(b"mask is not the segment length less 1"),
+        Refusal::CountLength => print::error(
+            b"segment count length 0, no multiple of the segment length, or too large",
+        ),
+        _ => print::error(b"not as many fingerprints as the descriptor says"),
+    }
+}

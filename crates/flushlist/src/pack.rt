@@ -1,0 +1,112 @@
+// From a text of due flushes to a list: the 20 bytes of the descriptor, and the fingerprints.
+ghost use mathlib.Core.Path.{_≡_};
+ghost use lib.ListN.{length};
+use crate::files;
+use crate::messages;
+use crate::print;
+use bfuse8::BuildAnswer;
+use descriptor::DESCRIPTOR_SIZE;
+use descriptor::Descriptor;
+use descriptor::WriteAnswer;
+use due_text::keys;
+use due_text::keys::KeysAnswer;
+
+const MAX_KEYS: usize = 4096;
+
+// For as many keys: fingerprints, places of the order, and bucket starts.
+pub const MAX_SLOTS: usize = 5632;
+
+const ORDER: usize = 4097;
+
+const STARTS: usize = 32;
+
+const ATTEMPTS: u32 = 1000;
+
+// For a text that is shorter. Only the length is promised, so that nothing above computes with so many zeros.
+fn text_room() -> [u8; 262144]
+    ensures { λ r. ⌜ 262144 ≡ length r ⌝ }
+{
+    [0; 262144]
+}
+
+// Whether the list was written; if not, it is said why.
+pub fn run(text: &[u8], list: &[u8]) -> bool {
+    let mut room = text_room();
+    let contents = files::read(text, &mut room);
+    if !contents.whole {
+        return false;
+    }
+    let n = contents.count;
+    pack_text(&room[..n], list)
+}
+
+fn pack_text(text: &[u8], list: &[u8]) -> bool {
+    let mut room = [0u64; MAX_KEYS];
+    let answer = keys::read(text, &mut room);
+    match answer {
+        KeysAnswer::Read(count) => pack_keys(&room[..count], list),
+        KeysAnswer::Bad(number, why) => {
+            messages::bad_line(number, why);
+            false
+        }
+    }
+}
+
+fn pack_keys(keys: &[u64], list: &[u8]) -> bool {
+    let mut fingerprints = [0u8; MAX_SLOTS];
+    let mut lone = [0u32; MAX_SLOTS];
+    let mut counts = [0u16; MAX_SLOTS];
+    let mut sums = [0u64; MAX_SLOTS];
+    let mut positions = [0u8; MAX_KEYS];
+    let mut order = [0u64; ORDER];
+    let mut starts = [0u32; STARTS];
+    let answer = bfuse8::build(
+        keys,
+        ATTEMPTS,
+        &mut fingerprints,
+        &mut lone,
+        &mut counts,
+        &mut sums,
+        &mut positions,
+        &mut order,
+        &mut starts,
+    );
+    match answer {
+        BuildAnswer::Built(d, slots, attempt) => {
+            let n = io::count(slots as isize, &fingerprints);
+            if !save(d, &fingerprints[..n], list) {
+                return false;
+            }
+            tell(list, keys.len(), n, attempt);
+            true
+        }
+        BuildAnswer::Refused(why) => {
+            messages::refused(why);
+            false
+        }
+    }
+}
+
+fn save(d: Descriptor, fingerprints: &[u8], list: &[u8]) -> bool {
+    let mut bytes = [0u8; DESCRIPTOR_SIZE];
+    let answer = descriptor::write(d, &mut bytes);
+    match answer {
+        WriteAnswer::Done => files::write(list, &bytes, fingerprints),
+        WriteAnswer::Refused(why) => {
+            messages::refused(why);
+            false
+        }
+    }
+}
+
+// As `due.list: keys 12, fingerprints 48, attempt 1`.
+fn tell(list: &[u8], keys: usize, slots: usize, attempt: u32) {
+    print::text(list);
+    print::text(b": keys ");
+    print::number(keys as u64);
+    print::text(b", fingerprints ");
+    print::number(slots as u64);
+    print::text(b", attempt ");
+    print::number(attempt as u64);
+    print::text(b"\n");
+}

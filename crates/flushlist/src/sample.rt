@@ -1,0 +1,29 @@
+// What it does, shown on the sample list.
+use crate::ask;
+use crate::messages;
+use crate::pack;
+use crate::print;
+use due_text::line;
+
+pub fn run() {
+    print::text(b"$ flushlist pack due.txt due.list\n");
+    if !pack::run(b"due.txt", b"due.list") {
+        messages::usage();
+        return;
+    }
+    // Listed: by the second on the line, by another of its hour, and by its key.
+    asked(b"1 1 1773032400");
+    asked(b"3 2 1773291600");
+    asked(b"283673999966209");
+    // Not listed: the next hour, another valve, and an hour that a clock at zero names.
+    asked(b"1 1 1773036000");
+    asked(b"1 3 1773032400");
+    asked(b"1 1 0");
+}
+
+fn asked(question: &[u8]) {
+    print::text(b"$ flushlist ask due.list ");
+    print::text(question);
+    print::text(b"\n");
+    ask::run(b"due.list", line::read(question));
+}
