@@ -1,0 +1,95 @@
+/*
+ * A bounded random test of the three C entries, to be run under AddressSanitizer and UBSan: random and damaged inputs, null with
+ * length 0, every refusal, and all lent memory with what lies around it compared after each call.
+ *
+ * usage: random [SEED [SCALE]]
+ */
+#include "gillpocketry.h"
+#include "paper.h"
+#include "test.h"
+
+#include <inttypes.h>
+#include <stdarg.h>
+#include <stdio.h>
+#include <stdlib.h>
+
+static uint64_t state;
+unsigned long long calls, refused[REFUSALS + 1];
+
+void wrong(const char *format, ...) {
+    va_list values;
+    va_start(values, format);
+    fputs("WRONG: ", stdout);
+    vprintf(format, values);
+    puts("");
+    va_end(values);
+    exit(1);
+}
+
+uint64_t any(void) { return paper_mix64(state += UINT64_C(0x9e3779b97f4a7c15)); }
+
+size_t below(size_t bound) { return (size_t)(any() % bound); }
+
+int one_in(size_t n) { return below(n) == 0; }
+
+size_t any_scale(size_t most) { return below((most >> below(13)) + 1); }
+
+/* The header's lengths serve every list up to n keys, and at the limit they are not longer than they must be. */
+static void test_header_lengths(void) {
+    size_t needed[BUFFERS], most_slots = 0, most_starts = 0;
+    for (size_t n = 0; n <= GP_MAX_KEYS; n++) {
+        paper_needed(n, needed);
+        most_slots = needed[FINGERPRINTS] > most_slots ? needed[FINGERPRINTS] : most_slots;
+        most_starts = needed[STARTS] > most_starts ? needed[STARTS] : most_starts;
+        if (GP_SLOTS_UP_TO(n) < most_slots || GP_STARTS_UP_TO(n) < most_starts) {
+            wrong("%zu keys need %zu slots and %zu bucket starts, more than the header says", n, most_slots, most_starts);
+        }
+    }
+    if (GP_MAX_SLOTS != most_slots || GP_MAX_STARTS != most_starts) {
+        wrong("the longest lengths are %zu slots and %zu bucket starts", most_slots, most_starts);
+    }
+}
+
+static void test_flush_keys(unsigned long rounds) {
+    while (rounds-- > 0) {
+        uint64_t before = any(), ours = before, due = before;
+        uint16_t unit = (uint16_t)any();
+        uint8_t valve = (uint8_t)any();
+        int shift = (int)below(63);
+        int64_t seconds = (int64_t)any() / ((int64_t)1 << shift);
+        uint32_t due_answer = paper_flush_key(unit, valve, seconds, &due);
+        uint32_t answer = gp_flush_key(unit, valve, seconds, &ours);
+        calls++;
+        if (answer != due_answer || ours != due) {
+            wrong("flush key of unit %u, valve %u, second %" PRId64 ": %" PRIu32 " and %" PRIu64 ", due %" PRIu32 " and %" PRIu64,
+                  (unsigned)unit, (unsigned)valve, seconds, answer, ours, due_answer, due);
+        }
+        if (due_answer != 0) {
+            refused[due_answer - GP_REFUSED]++;
+        }
+    }
+}
+
+int main(int count, char **words) {
+    uint64_t seed = count > 1 ? strtoull(words[1], NULL, 10) : 1;
+    unsigned long scale = count > 2 ? strtoul(words[2], NULL, 10) : 1;
+    state = seed;
+    setvbuf(stdout, NULL, _IOLBF, BUFSIZ);
+    test_header_lengths();
+    test_queries(4000000 * scale);
+    printf("queries: as document 01 says, %llu calls so far\n", calls);
+    test_builds(40000 * scale);
+    printf("builds: as document 01 says, %llu calls so far\n", calls);
+    test_flush_keys(1000000 * scale);
+    printf("flush keys: as document 01 says, %llu calls in all, seed %" PRIu64 ", scale %lu\n", calls, seed, scale);
+    printf("refusals seen:");
+    for (int i = 1; i <= REFUSALS; i++) {
+        printf(" %d: %llu%s", i, refused[i], i < REFUSALS ? "," : "\n");
+    }
+    for (int i = 1; i <= REFUSALS; i++) {
+        if (refused[i] == 0) {
+            wrong("refusal %d was never due, so it was not tested", i);
+        }
+    }
+    return 0;
+}

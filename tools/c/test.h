@@ -1,0 +1,24 @@
+/* What the parts of the random test share. */
+#ifndef TEST_H
+#define TEST_H
+
+#include <stddef.h>
+#include <stdint.h>
+
+/* How many calls were made, and how often each refusal was due. */
+enum { REFUSALS = 12 };
+extern unsigned long long calls, refused[REFUSALS + 1];
+
+/* Says what is wrong and ends the test with status 1. */
+void wrong(const char *format, ...);
+
+uint64_t any(void);
+size_t below(size_t bound);
+int one_in(size_t n);
+/* Up to `most`, as often small as large. */
+size_t any_scale(size_t most);
+
+void test_queries(unsigned long rounds);
+void test_builds(unsigned long rounds);
+
+#endif

@@ -1,0 +1,71 @@
+//! Writes the Rust's answers for lists that a program can make again by itself, to be replayed where there is no Rust.
+//! The first lines say what stands in the others.
+
+use oracle::keys::{chain, hash_zero_key, SMALL_STUCK_LISTS};
+use oracle::paper::attempt::Built;
+use oracle::paper::hash::mix64;
+use oracle::paper::layout::{MAX_ATTEMPTS, MAX_KEYS};
+use oracle::paper::query::read;
+use oracle::rust;
+use std::io::{self, BufWriter, Write};
+use std::process::ExitCode;
+
+const HEAD: &str = "\
+# Made by tools/make-replay: what BinaryFuse8::try_from of the Rust crate xorf 0.13.0 answers, built for release.
+# A line is: 0 n, or 1 n and n keys; then seed, segment length, segment count length, digest of the fingerprints.
+# After 0 n the keys are mix64(n * 2^32 + i + 1) for i = 0 .. n-1. Four zeros: no attempt from 1 to 1000 is free.
+# The digest begins as 14695981039346656037; each byte is xored into it, then it is multiplied by 1099511628211 modulo 2^64.";
+
+fn keys_of_size(size: usize) -> Vec<u64> {
+    (0..size as u64).map(|place| mix64(((size as u64) << 32) + place + 1)).collect()
+}
+
+/// The lists whose keys stand in the file: small ones that stick at first, keys whose hash is 0, chains up to the last attempt.
+fn special_lists() -> Vec<Vec<u64>> {
+    let mut lists: Vec<Vec<u64>> = SMALL_STUCK_LISTS.iter().map(|(keys, _)| keys.to_vec()).collect();
+    for attempt in 1..=3 {
+        let zero = hash_zero_key(attempt);
+        let stuck_before = chain(0, attempt - 1);
+        lists.push(vec![zero]);
+        lists.push([&stuck_before[..], &[zero]].concat());
+        lists.push([&[zero], &stuck_before[..], &[1, 2, 3, 4, 5, 6, 7]].concat());
+    }
+    lists.extend((1..=8).map(|links| chain(0, links)));
+    lists.extend([MAX_ATTEMPTS - 1, MAX_ATTEMPTS].map(|links| chain(0, links)));
+    lists
+}
+
+fn digest(bytes: &[u8]) -> u64 {
+    bytes.iter().fold(0xcbf2_9ce4_8422_2325, |digest, &byte| (digest ^ u64::from(byte)).wrapping_mul(0x100_0000_01b3))
+}
+
+fn in_words(answer: Option<Built>) -> String {
+    let Some(built) = answer else {
+        return "0 0 0 0".into();
+    };
+    let record = read(&built.descriptor).expect("the Rust's descriptor is accepted");
+    format!("{} {} {} {}", record.seed, record.segment_length, record.count_length, digest(&built.fingerprints))
+}
+
+fn write_list(out: &mut impl Write) -> io::Result<()> {
+    writeln!(out, "{HEAD}")?;
+    for size in 0..=MAX_KEYS {
+        writeln!(out, "0 {size} {}", in_words(rust::build(&keys_of_size(size))))?;
+    }
+    for keys in special_lists() {
+        let listed: String = keys.iter().map(|key| format!("{key} ")).collect();
+        writeln!(out, "1 {} {listed}{}", keys.len(), in_words(rust::build(&keys)))?;
+    }
+    Ok(())
+}
+
+fn main() -> ExitCode {
+    let mut out = BufWriter::new(io::stdout().lock());
+    match write_list(&mut out).and_then(|()| out.flush()) {
+        Ok(()) => ExitCode::SUCCESS,
+        Err(error) => {
+            eprintln!("answers: {error}");
+            ExitCode::FAILURE
+        }
+    }
+}
