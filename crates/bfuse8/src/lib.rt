@@ -6,6 +6,7 @@ ghost use Rattle.answers.specs.Answers.{outcome};
 ghost use Rattle.fuse.specs.Memory.{memory};
 ghost use Rattle.fuse.specs.Build.{buildOf, attemptOf};
 ghost use Rattle.fuse.specs.Demand.{Demand3};
+ghost use Rattle.fuse.specs.Leaves.{Leaves};
 ghost use Rattle.bfuse8.specs.Paper.{paper};
 use answers::Refusal;
 use descriptor::Descriptor;
@@ -30,6 +31,7 @@ pub fn build(
 ) -> BuildAnswer
     ensures { λ r. ⌜ outcome (paper r) (memory (now (fingerprints .exit)) (now (lone .exit)) (now (counts .exit)) (now (sums .exit)) (now (positions .exit)) (now (order .exit)) (now (starts .exit))) ≡ buildOf 8 (now (keys .entry)) limit (memory (now (fingerprints .entry)) (now (lone .entry)) (now (counts .entry)) (now (sums .entry)) (now (positions .entry)) (now (order .entry)) (now (starts .entry))) ⌝ }
     ensures { λ r. ⌜ Demand3 8 (now (keys .entry)) 1 limit (memory (now (fingerprints .entry)) (now (lone .entry)) (now (counts .entry)) (now (sums .entry)) (now (positions .entry)) (now (order .entry)) (now (starts .entry))) (paper r) (now (fingerprints .exit)) ⌝ }
+    ensures { λ r. ⌜ Leaves 8 (now (keys .entry)) (memory (now (fingerprints .entry)) (now (lone .entry)) (now (counts .entry)) (now (sums .entry)) (now (positions .entry)) (now (order .entry)) (now (starts .entry))) (paper r) (memory (now (fingerprints .exit)) (now (lone .exit)) (now (counts .exit)) (now (sums .exit)) (now (positions .exit)) (now (order .exit)) (now (starts .exit))) ⌝ }
 {
     parts::within(
         keys,
@@ -59,6 +61,7 @@ pub fn attempt(
 ) -> BuildAnswer
     ensures { λ r. ⌜ outcome (paper r) (memory (now (fingerprints .exit)) (now (lone .exit)) (now (counts .exit)) (now (sums .exit)) (now (positions .exit)) (now (order .exit)) (now (starts .exit))) ≡ attemptOf 8 (now (keys .entry)) number (memory (now (fingerprints .entry)) (now (lone .entry)) (now (counts .entry)) (now (sums .entry)) (now (positions .entry)) (now (order .entry)) (now (starts .entry))) ⌝ }
     ensures { λ r. ⌜ Demand3 8 (now (keys .entry)) number number (memory (now (fingerprints .entry)) (now (lone .entry)) (now (counts .entry)) (now (sums .entry)) (now (positions .entry)) (now (order .entry)) (now (starts .entry))) (paper r) (now (fingerprints .exit)) ⌝ }
+    ensures { λ r. ⌜ Leaves 8 (now (keys .entry)) (memory (now (fingerprints .entry)) (now (lone .entry)) (now (counts .entry)) (now (sums .entry)) (now (positions .entry)) (now (order .entry)) (now (starts .entry))) (paper r) (memory (now (fingerprints .exit)) (now (lone .exit)) (now (counts .exit)) (now (sums .exit)) (now (positions .exit)) (now (order .exit)) (now (starts .exit))) ⌝ }
 {
     parts::within(
         keys,

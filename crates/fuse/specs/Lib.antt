@@ -15,3 +15,5 @@ pub mod Finish
 pub mod Endings
 pub mod PutBack
 pub mod ToldApart
+pub mod Leaves
+pub mod LeftAsSaid

@@ -1,10 +1,11 @@
--- `bfuse8::attempt` meets its contract: the one attempt of that number; the third demand follows from the outcome. Assumes nothing.
+-- `bfuse8::attempt` meets its contract: the one attempt of that number; what is demanded and what is left follow from the outcome. Assumes nothing.
 use mathlib.Core.Path.{_≡_, ap, _∙_}
 use Prim.Native.Nat.{ℕ, _+_, _-_}
 use native.Mathlib.Omega.{arith}
 use Rattle.fuse.specs.Memory.{Memory, memory}
 use Rattle.fuse.specs.Build.{searchOf}
 use Rattle.fuse.specs.Demanded.{demand-met}
+use Rattle.fuse.specs.LeftAsSaid.{left-as-said}
 use borrow.Author.Needs.{needs}
 use Rattle.bfuse8.proofs.attempt.Statement.{statement}
 use Rattle.bfuse8.proofs.attempt.Tie as tie
@@ -52,7 +53,7 @@ returns c =
     let keys = e .args .keys .now in
     let number = e .args .number in (
       w .within .ensures ∙ ap (λ (k : ℕ). searchOf 8 keys number number k (lent e)) (count number),
-      demand-met 8 keys number number (lent e) (λ some. (some, omega arith)) _ (w .within .ensures),
+      (demand-met 8 keys number number (lent e) (λ some. (some, omega arith)) _ (w .within .ensures), left-as-said 8 keys (lent e) number number (number + 1 - number) _ (w .within .ensures)),
     )
 
 pub attempt-spec : {M : Type 1} → statement M

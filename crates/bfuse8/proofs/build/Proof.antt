@@ -1,10 +1,11 @@
--- `bfuse8::build` meets its contract: attempts 1 to the limit; the third demand follows from the outcome. Assumes nothing.
+-- `bfuse8::build` meets its contract: attempts 1 to the limit; what is demanded and what is left follow from the outcome. Assumes nothing.
 use mathlib.Core.Path.{_≡_, ap, _∙_}
 use Prim.Native.Nat.{ℕ, _+_, _-_}
 use native.Mathlib.Omega.{arith}
 use Rattle.fuse.specs.Memory.{Memory, memory}
 use Rattle.fuse.specs.Build.{searchOf}
 use Rattle.fuse.specs.Demanded.{demand-met}
+use Rattle.fuse.specs.LeftAsSaid.{left-as-said}
 use borrow.Author.Needs.{needs}
 use Rattle.bfuse8.proofs.build.Statement.{statement}
 use Rattle.bfuse8.proofs.build.Tie as tie
@@ -52,7 +53,7 @@ returns c =
     let keys = e .args .keys .now in
     let limit = e .args .limit in (
       w .within .ensures ∙ ap (λ (k : ℕ). searchOf 8 keys limit 1 k (lent e)) (count limit),
-      demand-met 8 keys 1 limit (lent e) (λ some. (omega arith, some)) _ (w .within .ensures),
+      (demand-met 8 keys 1 limit (lent e) (λ some. (omega arith, some)) _ (w .within .ensures), left-as-said 8 keys (lent e) limit 1 (limit + 1 - 1) _ (w .within .ensures)),
     )
 
 pub build-spec : {M : Type 1} → statement M

@@ -110,7 +110,7 @@ returns-2 c =
     let is = a .answer .given .1 in
     let room = entry (checked b) .args .descriptor .now in
     let slots = a .answer .given .0 .1 .0 in
-    ap (buildTold _ (left b)) (written _ (take slots (left b .fingerprints)) room (b .build .ensures .1 .accepted _ (ap paper is)) (long (checked b)) (w .write .ensures)) ∙ told b _ is
+    ap (buildTold _ (left b)) (written _ (take slots (left b .fingerprints)) room (b .build .ensures .1 .0 .accepted _ (ap paper is)) (long (checked b)) (w .write .ensures)) ∙ told b _ is
 
 same-length-9 : tie.Need-same-length-9
 same-length-9 c = search needs
