@@ -5,3 +5,4 @@ pub mod Fingerprint
 pub mod Slots
 pub mod OneToOne
 pub mod Spread
+pub mod SeedBound

@@ -1,2 +1,4 @@
 pub mod Paper
 pub mod OneAnswer
+pub mod SmallLists
+pub mod MustNotFit

@@ -1,3 +1,4 @@
 pub mod KeyTold
 pub mod BuildTold
 pub mod OneAnswer
+pub mod ListedKeys

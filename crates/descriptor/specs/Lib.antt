@@ -7,3 +7,4 @@ pub mod Accepted
 pub mod RoundTrip
 pub mod OneAnswer
 pub mod Example
+pub mod MustNotFit

@@ -17,3 +17,4 @@ pub mod PutBack
 pub mod ToldApart
 pub mod Leaves
 pub mod LeftAsSaid
+pub mod ByTwentyBytes

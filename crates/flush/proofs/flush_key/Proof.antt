@@ -2,10 +2,8 @@
 use mathlib.Core.Path.{_∙_, ap}
 use mir.Facts.{toZ-ofZ}
 use borrow.Author.Needs.{needs}
-use borrow.Author.Tests.{lt-ltb, le-ltb}
 use Rattle.answers.specs.Answers.{gives}
-use Rattle.flush.specs.FlushKey.{lastHour, keyAtHour}
-use Rattle.flush.proofs.Clock.{Counts, below-zero, counts}
+use Rattle.flush.proofs.Clock.{Counts, below-zero, counts, too-late, in-time}
 use Rattle.flush.proofs.flush_key.Statement.{statement}
 use Rattle.flush.proofs.flush_key.Tie as tie
 
@@ -21,19 +19,15 @@ cast-hour : tie.Need-cast-hour
 cast-hour c = rw (toZ-ofZ (c .before .fits .seconds)) (counted c .not-below, counted c .fits)
 
 returns-2 : tie.Need-returns-2
-unfolding keyAtHour
-returns-2 c =
-    let e = toZ-ofZ (c .before .before .fits .seconds) in
-    rw (lt-ltb lastHour _ (rw e at (c .if2 .taken))) at (counted (c .before) .is)
+returns-2 c = too-late _ _ (rw (toZ-ofZ (c .before .before .fits .seconds)) at (c .if2 .taken)) ∙ counted (c .before) .is
 
 key-requires : tie.Need-key-requires
 key-requires c κs = search needs
 
 returns-3 : tie.Need-returns-3
-unfolding keyAtHour
 returns-3 c =
     let e = toZ-ofZ (c .before .before .before .fits .seconds) in
-    ap gives (rw e at (c .key .ensures)) ∙ rw (le-ltb lastHour _ (rw e at (c .before .if2 .left))) at (counted (c .before .before) .is)
+    ap gives (rw e at (c .key .ensures)) ∙ in-time _ _ (rw e at (c .before .if2 .left)) ∙ counted (c .before .before) .is
 
 pub flush-key-spec : {M : Type 1} → statement M
 flush-key-spec = tie.close (tie.spec returns cast-hour returns-2 key-requires returns-3)
