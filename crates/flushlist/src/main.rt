@@ -54,6 +54,10 @@ fn pack_named() {
         os::fail(b"the list's name");
         return;
     }
+    if check::same(&text[..text_length], &list[..list_length]) {
+        messages::same_name(&text[..text_length]);
+        return;
+    }
     pack::run(&text[..text_length], &list[..list_length]);
 }
 

@@ -14,6 +14,12 @@ pub fn usage() {
     );
 }
 
+// A list under the text's own name would take its place.
+pub fn same_name(name: &[u8]) {
+    print::error(name);
+    print::error(b": text and list have the same name\n");
+}
+
 // What is wrong with a line, by its number.
 pub fn bad_line(number: usize, why: Fault) {
     print::error(b"line ");
