@@ -91,7 +91,7 @@ static uint32_t ask(uint64_t key) {
     return gp_fuse8_contains(list, descriptor_length, list + descriptor_length, list_length - descriptor_length, key);
 }
 
-/* A damaged or cut list is refused whatever it is asked, so one question before the first hour is enough. */
+/* A damaged or cut list is refused whatever it is asked, so it is seen before the first hour. */
 static int accept_list(void) {
     uint32_t answer = ask(0);
     if (answer >= GP_REFUSED) {
@@ -99,6 +99,12 @@ static int accept_list(void) {
         return 1;
     }
     return 0;
+}
+
+/* A refusal is neither yes nor no: the clock or the list is bad, and nothing is known of this hour. Taken for "not due" it would
+ * let membranes rot unseen, so it is a case of its own at every question, although the list was good before the first hour. */
+static void sound_alarm(uint32_t answer, int any_due) {
+    printf("%s ALARM, nothing is known: refused with %u\n", any_due ? ";" : "", (unsigned)(answer - GP_REFUSED));
 }
 
 static void watch_hour(int hour) {
@@ -109,11 +115,14 @@ static void watch_hour(int hour) {
     for (valve = 0; valve < VALVES; valve++) {
         uint64_t key;
         uint32_t answer = gp_flush_key(UNIT, (uint8_t)valve, seconds, &key);
-        if (answer != 0) {
-            printf(" no flush keys, refused with %u\n", (unsigned)(answer - GP_REFUSED));
+        if (answer == 0) {
+            answer = ask(key);
+        }
+        if (answer >= GP_REFUSED) {
+            sound_alarm(answer, any_due);
             return;
         }
-        if (ask(key) == GP_YES) {
+        if (answer == GP_YES) {
             printf("%s %u", any_due ? "," : " would flush valve", valve);
             any_due = 1;
         }

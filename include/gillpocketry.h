@@ -5,7 +5,8 @@
  * from, and for about one other key in 256. The three functions are proved to give, for every input, the answers written here;
  * they keep nothing and touch no memory but what they are lent.
  *
- * Link with target/staticlib/libc_api.a, which `rt staticlib c_api` makes.
+ * Link with target/staticlib/libc_api.a, which `rt staticlib c_api` makes. Of the C library it needs memset alone, so no -lm.
+ * Stack, as measured: a build takes 8.6 KB, most of it a copy of a table, the other two less than 100 bytes.
  *
  * Lent memory: each buffer is a pointer and its number of elements (not of bytes). The pointer is aligned for its element and may
  * be null where the number is 0. Buffers that are written overlap no other buffer of the same call.
@@ -77,7 +78,10 @@ extern "C" {
 #define GP_YES 1
 
 /* How many fingerprints belong to a descriptor that a build has written: its segment count length plus twice its segment length,
- * from 20 bytes of type uint8_t. A query takes just so many of them, even where the room that they lie in is longer. */
+ * from 20 bytes of type uint8_t. A query takes just so many of them, even where the room that they lie in is longer.
+ * Only for a descriptor that a build of this program has written. One from outside (a file, a radio) may be damaged: it would set
+ * its own length, refusal 11 could not come, and the query would read past the fingerprints. For such a one, give the query the
+ * number of fingerprints that came. */
 #define GP_WORD_AT(bytes, at)                                                                                                   \
     ((uint32_t)(bytes)[(at)] | (uint32_t)(bytes)[(at) + 1] << 8 | (uint32_t)(bytes)[(at) + 2] << 16 |                           \
      (uint32_t)(bytes)[(at) + 3] << 24)
