@@ -22,6 +22,22 @@ need() { # COMMAND WHERE-FROM
   command -v "$1" >/dev/null || fail "$1 is missing: $2"
 }
 
+# Sets seed and scale as the words of the command say, each 1 where they do not. Bad words are refused, before anything is proved or built.
+read_seed_and_scale() { # [--seed N] [--scale N]
+  seed=1 scale=1
+  while [ $# -gt 1 ]; do
+    case $1 in
+      --seed) seed=$2 ;;
+      --scale) scale=$2 ;;
+      *) break ;;
+    esac
+    shift 2
+  done
+  if [ $# != 0 ] || ! [[ $seed =~ ^[0-9]{1,19}$ && $scale =~ ^[1-9][0-9]{0,5}$ ]]; then
+    fail "usage: tools/$(basename "$0") [--seed N] [--scale N]   (a seed has at most 19 digits, a scale is 1 to 999999)"
+  fi
+}
+
 # Sets GP_LIB to the archive that is to be linked. The default one is proved and made anew, so that it is never an old one.
 find_our_library() {
   if [ -z "${GP_LIB:-}" ]; then
@@ -94,11 +110,15 @@ EOF
   } | write_if_changed "$root/target/xorf/lib.rs"
 }
 
-# Builds one program of tools/oracle for release, with no network.
-build_oracle() { # PROGRAM
+# What the programs of tools/oracle are built from. It comes before anything is proved, so that what is missing is said at once.
+find_rust() {
   need cargo "rustc and cargo are needed, 1.77 or later (Debian 12: apt-get install -y rustc-web cargo-web)"
   find_libm
   write_xorf
+}
+
+# Builds one program of tools/oracle for release, with no network, after find_rust.
+build_oracle() { # PROGRAM
   (
     cd "$root/tools/oracle"
     CARGO_TARGET_DIR=$root/target/oracle cargo build --quiet --release --offline --bin "$1" ${JOBS:+-j "$JOBS"} \
