@@ -52,17 +52,22 @@ static void test_header_lengths(void) {
 
 static void test_flush_keys(unsigned long rounds) {
     while (rounds-- > 0) {
-        uint64_t before = any(), ours = before, due = before;
+        uint64_t ours[3] = {any(), any(), any()}; /* the key's place between two words that no call may change */
+        uint64_t due[3] = {ours[0], ours[1], ours[2]};
         uint16_t unit = (uint16_t)any();
         uint8_t valve = (uint8_t)any();
         int shift = (int)below(63);
         int64_t seconds = (int64_t)any() / ((int64_t)1 << shift);
-        uint32_t due_answer = paper_flush_key(unit, valve, seconds, &due);
-        uint32_t answer = gp_flush_key(unit, valve, seconds, &ours);
+        uint32_t due_answer = paper_flush_key(unit, valve, seconds, &due[1]);
+        uint32_t answer = gp_flush_key(unit, valve, seconds, &ours[1]);
         calls++;
-        if (answer != due_answer || ours != due) {
+        if (answer != due_answer || ours[1] != due[1]) {
             wrong("flush key of unit %u, valve %u, second %" PRId64 ": %" PRIu32 " and %" PRIu64 ", due %" PRIu32 " and %" PRIu64,
-                  (unsigned)unit, (unsigned)valve, seconds, answer, ours, due_answer, due);
+                  (unsigned)unit, (unsigned)valve, seconds, answer, ours[1], due_answer, due[1]);
+        }
+        if (ours[0] != due[0] || ours[2] != due[2]) {
+            wrong("flush key of unit %u, valve %u, second %" PRId64 ": a word beside the key is changed", (unsigned)unit,
+                  (unsigned)valve, seconds);
         }
         if (due_answer != 0) {
             refused[due_answer - GP_REFUSED]++;
