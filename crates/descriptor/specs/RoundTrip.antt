@@ -7,7 +7,8 @@ use borrow.Author.Tests.{le-ltb, ltb-false}
 use lib.Dec.{ltb}
 use lib.ListN.{length, getD, take, drop, length-append}
 use lib.Seq.{take-add}
-use Rattle.words.specs.Bytes.{numberAt, bytesOf, number-of-bytes, bytes-of-number}
+use Rattle.words.specs.Bytes.{numberAt, bytesOf}
+use Rattle.words.specs.BytesRoundTrip.{number-of-bytes, bytes-of-number}
 use Rattle.answers.specs.Answers.{gives, Outcome, outcome}
 use Rattle.answers.specs.Checks.{Done, done, refuseIf, _then_}
 use Rattle.answers.specs.Passed.{both-pass, passed-first, next-follows}

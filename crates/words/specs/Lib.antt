@@ -1,3 +1,4 @@
 pub mod Modulo
 pub mod Xor
 pub mod Bytes
+pub mod BytesRoundTrip
