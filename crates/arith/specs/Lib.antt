@@ -1,8 +1,11 @@
 pub mod Steps
 pub mod Murmur3
 pub mod SplitMix64
+pub mod StateClosed
 pub mod Fingerprint
+pub mod FingerprintBounded
 pub mod Slots
+pub mod SlotsPromised
 pub mod OneToOne
 pub mod Spread
 pub mod SeedBound

@@ -7,5 +7,5 @@ unfoldable pub mix64Of : ℕ → ℕ
 mix64Of key = xorshift 33 (times 0xc4ceb9fe1a85ec53 (xorshift 33 (times 0xff51afd7ed558ccd (xorshift 33 key))))
 
 -- the seed is added first, modulo 2 ^ 64
-unfoldable pub hashOf : ℕ → ℕ → ℕ
+unfoldable pub hashOf : (key seed : ℕ) → ℕ
 hashOf key seed = mix64Of ((key + seed) % 2 ^ 64)

@@ -1,7 +1,5 @@
 -- Document 01, module 2: splitmix64, whose state starts at 1 and never starts over. Assumes nothing.
-use mathlib.Core.Path.{_≡_, refl, ap, _∙_}
-use Prim.Native.Nat.{ℕ, zero, suc, _+_, _*_, _%_, _^_}
-use native.Mathlib.Nat.{add-assoc, suc-mul, mod-add-mod}
+use Prim.Native.Nat.{ℕ, zero, suc, _+_, _%_, _^_}
 use Rattle.arith.specs.Steps.{xorshift, times}
 
 -- what each output adds to the state
@@ -20,13 +18,3 @@ outputOf state = xorshift 31 (times 0x94d049bb133111eb (xorshift 27 (times 0xbf5
 -- the seed of attempt i is the i-th output
 unfoldable pub seedOf : ℕ → ℕ
 seedOf i = outputOf (stateOf i)
-
--- ---- the state after i outputs, at once
-
-pub state-closed : (i : ℕ) → stateOf i ≡ (1 + i * increment) % 2 ^ 64
-unfolding stateOf
-state-closed zero = refl
-state-closed (suc i) =
-    ap (λ (x : ℕ). (x + increment) % 2 ^ 64) (state-closed i)
-    ∙ mod-add-mod (1 + i * increment) (2 ^ 64) increment
-    ∙ ap (λ (x : ℕ). x % 2 ^ 64) (add-assoc 1 (i * increment) increment ∙ ap (λ (x : ℕ). 1 + x) (rw suc-mul))

@@ -7,7 +7,8 @@ use native.Mathlib.Omega.{arith}
 use lib.Pow.{pow-pos}
 use lib.Bits.{bitAnd, mask-lt}
 use Rattle.words.specs.Xor.{xor-above}
-use Rattle.arith.specs.Slots.{slot0, slot1, slot2, slotsOf, slotsModulo}
+use Rattle.arith.specs.Slots.{slot0, slot1, slot2, slotsOf}
+use Rattle.arith.specs.SlotsPromised.{slotsModulo}
 
 -- ---- slot 0 alone
 

@@ -3,9 +3,9 @@ use Prim.Native.Nat.{ℕ, _*_, _/_, _%_, _^_}
 use lib.Bits.{bitXor}
 
 -- x xor (x shifted right by k)
-unfoldable pub xorshift : ℕ → ℕ → ℕ
+unfoldable pub xorshift : (k x : ℕ) → ℕ
 xorshift k x = bitXor x (x / 2 ^ k)
 
 -- x times c; the carry out of 64 bits is dropped
-unfoldable pub times : ℕ → ℕ → ℕ
+unfoldable pub times : (c x : ℕ) → ℕ
 times c x = (x * c) % 2 ^ 64

@@ -1,6 +1,6 @@
 // `hash_of_hash` of the Rust: the three slots of a hash, in the order of their positions. `segment` is the segment length
 // L, `span` the segment count length.
-ghost use Rattle.arith.specs.Slots.{SlotsAre};
+ghost use Rattle.arith.specs.SlotsPromised.{SlotsAre};
 use words::mul_high;
 
 // The sums wrap at 2^32 as the Rust's do, so that no layout stops the call; where a layout has room, none does.

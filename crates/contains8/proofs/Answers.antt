@@ -11,7 +11,8 @@ use Rattle.answers.specs.Answers.{gives}
 use Rattle.answers.specs.Checks.{done}
 use Rattle.arith.specs.Murmur3.{hashOf}
 use Rattle.arith.specs.Fingerprint.{fingerprintOf}
-use Rattle.arith.specs.Slots.{slotsOf, SlotsAre}
+use Rattle.arith.specs.Slots.{slotsOf}
+use Rattle.arith.specs.SlotsPromised.{SlotsAre}
 use Rattle.stuck.specs.Fill.{queryXor}
 use Rattle.peel.specs.SlotsApart.{in-room}
 use Rattle.descriptor.specs.declared.Descriptor.{Descriptor}

@@ -6,7 +6,7 @@ use native.Mathlib.Omega.{arith}
 use lib.ListN.{getD, set}
 use lib.Bits.{bitXor, xor-comm}
 use Rattle.words.specs.Xor.{xor-assoc, xor-cancel-right}
-use Rattle.arith.specs.Slots.{SlotsAre}
+use Rattle.arith.specs.SlotsPromised.{SlotsAre}
 use Rattle.stuck.specs.Stuck.{Slots, slotAt, Pick, pick}
 use Rattle.stuck.specs.Ring.{next}
 use Rattle.stuck.specs.Fill.{store, fill}

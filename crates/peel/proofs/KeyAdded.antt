@@ -6,7 +6,7 @@ use Prim.Native.Nat.{ℕ, _+_, _/_, _^_, _<_}
 use native.Mathlib.Omega.{arith}
 use lib.ListN.{length, getD, set}
 use lib.Bits.{bitXor}
-use Rattle.arith.specs.Slots.{SlotsAre}
+use Rattle.arith.specs.SlotsPromised.{SlotsAre}
 use Rattle.stuck.specs.Stuck.{Slots, slotAt}
 use Rattle.stuck.specs.Ring.{Apart}
 use Rattle.machine.specs.Machine.{Sums, touch, addKey}

@@ -7,7 +7,7 @@ use native.Mathlib.Omega.{arith}
 use lib.ListN.{length, getD, set}
 use lib.Bits.{bitXor}
 use lib.Dec.{eqb}
-use Rattle.arith.specs.Slots.{SlotsAre}
+use Rattle.arith.specs.SlotsPromised.{SlotsAre}
 use Rattle.stuck.specs.Total.{bit}
 use Rattle.stuck.specs.Stuck.{Slots, slotAt}
 use Rattle.stuck.specs.Ring.{next, Apart, slot-below, apart-from}

@@ -5,7 +5,8 @@ use mathlib.Core.List.{List}
 use Prim.Native.Nat.{ℕ, zero, suc, _^_, _<_}
 use native.Mathlib.Omega.{arith}
 use lib.ListN.{getD}
-use Rattle.arith.specs.Slots.{slotsOf, SlotsAre}
+use Rattle.arith.specs.Slots.{slotsOf}
+use Rattle.arith.specs.SlotsPromised.{SlotsAre}
 use Rattle.stuck.specs.Stuck.{Slots, slotAt}
 use Rattle.stuck.specs.Ring.{Apart, slot-below}
 use Rattle.peel.specs.Segments.{slotsIn, Segmented}

@@ -8,7 +8,8 @@ use native.Mathlib.Omega.{arith}
 use lib.ListN.{length, getD, replicate, length-replicate}
 use lib.Pow.{pow-pos}
 use Rattle.arith.specs.Murmur3.{hashOf}
-use Rattle.arith.specs.Fingerprint.{fingerprintOf, fingerprint-lt}
+use Rattle.arith.specs.Fingerprint.{fingerprintOf}
+use Rattle.arith.specs.FingerprintBounded.{fingerprint-lt}
 use Rattle.stuck.specs.Stuck.{Slots, SomeStuck, NoneStuck, Pick, pick}
 use Rattle.stuck.specs.HowMany.{Sticks}
 use Rattle.stuck.specs.Ring.{Apart}

@@ -4,7 +4,8 @@ use mathlib.Core.List.{List}
 use Prim.Native.Nat.{ℕ, _+_, _*_, _/_, _%_, _^_, _<_}
 use native.Mathlib.Omega.{arith}
 use lib.Bits.{and-le-r}
-use Rattle.arith.specs.Slots.{slot0, slotsModulo, SlotsAre}
+use Rattle.arith.specs.Slots.{slot0}
+use Rattle.arith.specs.SlotsPromised.{slotsModulo, SlotsAre}
 use Rattle.arith.specs.Spread.{modulo-in-room}
 use borrow.Author.Needs.{needs}
 use Rattle.arith.proofs.slots.slots.Statement.{statement}

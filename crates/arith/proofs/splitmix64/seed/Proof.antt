@@ -2,7 +2,8 @@
 use mathlib.Core.Path.{_∙_, ap, sym}
 use Prim.Native.Nat.{ℕ, _+_, _*_, _%_, _^_}
 use native.Mathlib.Nat.{add-mod-mod}
-use Rattle.arith.specs.SplitMix64.{increment, seedOf, outputOf, state-closed}
+use Rattle.arith.specs.SplitMix64.{increment, seedOf, outputOf}
+use Rattle.arith.specs.StateClosed.{state-closed}
 use borrow.Author.Needs.{needs}
 use Rattle.arith.proofs.splitmix64.seed.Statement.{statement}
 use Rattle.arith.proofs.splitmix64.seed.Tie as tie
