@@ -9,7 +9,8 @@ use lib.ListN.{length, take, length-append}
 use lib.Pow.{pow-pos}
 use lib.Seq.{take-at}
 use Rattle.stuck.specs.Stuck.{Slots}
-use Rattle.reorder.specs.Reordered.{Reordered, reordered-length}
+use Rattle.reorder.specs.Reordered.{Reordered}
+use Rattle.reorder.specs.ReorderedLaws.{reordered-length}
 use Rattle.machine.specs.Machine.{sumsOf, picksFrom}
 use Rattle.machine.specs.Order.{sums-reordered}
 use Rattle.peel.specs.Segments.{slotsIn, Segmented, hashesOf}

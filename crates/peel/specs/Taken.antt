@@ -15,7 +15,8 @@ use Rattle.stuck.specs.HowMany.{Sticks}
 use Rattle.stuck.specs.Ring.{Apart}
 use Rattle.stuck.specs.Fill.{fill, AnswersYes}
 use Rattle.stuck.specs.FillAnswers.{fill-length, Fits, fill-fits}
-use Rattle.reorder.specs.Reordered.{Reordered, reordered-map}
+use Rattle.reorder.specs.Reordered.{Reordered}
+use Rattle.reorder.specs.ReorderedLaws.{reordered-map}
 use Rattle.machine.specs.Machine.{stores}
 use Rattle.machine.specs.Order.{picks-reordered}
 use Rattle.machine.specs.Picks.{SmallPositions, picks-at-most, picks-small, picks-all, picks-not-all, picks-leave, picks-yes}

@@ -1,2 +1,3 @@
 pub mod Reordered
+pub mod ReorderedLaws
 pub mod Stores
