@@ -13,7 +13,8 @@ use Rattle.capacity.specs.Capacity.{maxKeys}
 use Rattle.layout.specs.Layout.{slotsOf}
 use Rattle.repeats.specs.Repeats.{repeats?, Twice}
 use Rattle.repeats.specs.Laws.{repeats-iff}
-use Rattle.stuck.specs.FirstFree.{First, AllStuck, first-same, first-not-all}
+use Rattle.stuck.specs.FirstFree.{First, AllStuck}
+use Rattle.stuck.specs.FirstOrAll.{first-same, first-not-all}
 use Rattle.fuse.specs.Attempts.{descriptorAt, slotsAt, free, fingerprintsAt}
 use Rattle.fuse.specs.Memory.{Memory, checked}
 use Rattle.fuse.specs.Checked.{up-to-four, passed}

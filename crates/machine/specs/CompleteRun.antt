@@ -26,14 +26,14 @@ byHash hs (pick i p ∷ r) = pick (getD hs i 0) p ∷ byHash hs r
 
 module _ (slots : ℕ → Slots) (hs : List ℕ) where
   -- `out` is a complete run from the keys of m, its keys written by their hashes
-  pub record Outcome (m : KeySet) (out : List Pick) : Type 0 where
+  pub record IsCompleteRun (m : KeySet) (out : List Pick) : Type 0 where
     pub picks : List Pick
     pub left : KeySet
     pub complete : Complete (map slots hs) m picks left
     pub is : out ≡ byHash hs picks
 
-  goes-on : (m : KeySet) (s : ℕ) (k : Sole slots hs m s) (out : List Pick) → Outcome (without m (k .i)) out
-      → Outcome m (pick (getD hs (k .i) 0) (k .place .position) ∷ out)
+  goes-on : (m : KeySet) (s : ℕ) (k : Sole slots hs m s) (out : List Pick) → IsCompleteRun (without m (k .i)) out
+      → IsCompleteRun m (pick (getD hs (k .i) 0) (k .place .position) ∷ out)
   goes-on m s k out rest =
       record {
         picks = pick (k .i) (k .place .position) ∷ rest .picks;
@@ -68,27 +68,27 @@ module _ (slots : ℕ → Slots) (hs : List ℕ) (n : ℕ) (apart : (i : ℕ) �
       inside : s < n
       inside = let w = touched-at (key keys i) s (al .touch) in subst (λ (x : ℕ). x < n) (w .2) (slot-below n (key keys i) its-slots (w .0))
 
-  ends : (m : KeySet) (a : Sums) → Standing slots hs n m a [] → Outcome slots hs m []
+  ends : (m : KeySet) (a : Sums) → Standing slots hs n m a [] → IsCompleteRun slots hs m []
   ends m a k = record { picks = []; left = m; complete = record { run = done; stops = none-alone m a k }; is = refl }
 
-  pub outcome : (turns : ℕ) (m : KeySet) (a : Sums) (stack : List ℕ) → Standing slots hs n m a stack → length stack + many (a .counts) ≤ turns
-      → Outcome slots hs m (takes slots turns (record { sums = a; stack = stack }))
+  pub takes-complete : (turns : ℕ) (m : KeySet) (a : Sums) (stack : List ℕ) → Standing slots hs n m a stack → length stack + many (a .counts) ≤ turns
+      → IsCompleteRun slots hs m (takes slots turns (record { sums = a; stack = stack }))
   unfolding takes pop atSlot
-  outcome zero m a [] k le = ends m a k
-  outcome zero m a (s ∷ stack) k le = absurd (omega arith)
-  outcome (suc turns) m a [] k le = ends m a k
-  outcome (suc turns) m a (s ∷ stack) k le = by (eqb (getD (a .counts) s 0) 1) refl (outcome turns)
+  takes-complete zero m a [] k le = ends m a k
+  takes-complete zero m a (s ∷ stack) k le = absurd (omega arith)
+  takes-complete (suc turns) m a [] k le = ends m a k
+  takes-complete (suc turns) m a (s ∷ stack) k le = by (eqb (getD (a .counts) s 0) 1) refl (takes-complete turns)
     where
       st : State
       st = record { sums = a; stack = stack }
 
       by : (b : Bool) → eqb (getD (a .counts) s 0) 1 ≡ b
           → ((m′ : KeySet) (a′ : Sums) (stack′ : List ℕ) → Standing slots hs n m′ a′ stack′ → length stack′ + many (a′ .counts) ≤ turns
-          → Outcome slots hs m′ (takes slots turns (record { sums = a′; stack = stack′ })))
-          → Outcome slots hs m (atSlot slots b s st (λ x. takes slots turns x))
+          → IsCompleteRun slots hs m′ (takes slots turns (record { sums = a′; stack = stack′ })))
+          → IsCompleteRun slots hs m (atSlot slots b s st (λ x. takes slots turns x))
       by false e later = later m a stack (dropped slots hs n m a s stack k (λ one. subst T e (yes-eqb one))) (omega arith)
       by true e later =
-          subst₂ (λ (x y : ℕ). Outcome slots hs m (pick x y ∷ takes slots turns (takeKey (slots x) x y st))) (sym (hash-is slots hs n apart m a s stack k one))
+          subst₂ (λ (x y : ℕ). IsCompleteRun slots hs m (pick x y ∷ takes slots turns (takeKey (slots x) x y st))) (sym (hash-is slots hs n apart m a s stack k one))
           (sym (position-is slots hs n apart m a s stack k one)) (goes-on slots hs m s who (takes slots turns after) rest)
         where
           one : getD (a .counts) s 0 ≡ 1
@@ -103,7 +103,7 @@ module _ (slots : ℕ → Slots) (hs : List ℕ) (n : ℕ) (apart : (i : ℕ) �
           after : State
           after = takeKey (slots h) h (who .place .position) st
 
-          rest : Outcome slots hs (without m (who .i)) (takes slots turns after)
+          rest : IsCompleteRun slots hs (without m (who .i)) (takes slots turns after)
           rest =
               later (without m (who .i)) (after .sums) (after .stack) (standing-after slots hs n apart m a s stack k one)
               (omega (arith, take-work (slots h) h (who .place .position) st))

@@ -1,4 +1,4 @@
--- Document 01, section "One attempt, and the order that fixes the bytes": the attempt as a machine that knows the keys only through each
+-- Document 01, "One attempt, and the order that fixes the bytes": the attempt as a machine that knows the keys only through each
 -- slot's count, xor of hashes and xor of positions. The slots of a hash are any function. Definitions only. Assumes nothing.
 use mathlib.Core.Bool.{Bool, true, false, cond}
 use mathlib.Core.List.{List, [], _∷_}
@@ -6,8 +6,7 @@ use Prim.Native.Nat.{ℕ, zero, suc, _+_, _-_}
 use lib.ListN.{length, getD, set}
 use lib.Bits.{bitXor}
 use lib.Dec.{eqb}
-use Rattle.stuck.specs.Stuck.{Slots, slotAt, Pick, pick}
-use Rattle.stuck.specs.Ring.{next}
+use Rattle.stuck.specs.Stuck.{Slots, slotAt, next, Pick, pick}
 use Rattle.stuck.specs.Fill.{Entry}
 
 -- ---- what each slot knows
@@ -58,14 +57,6 @@ changeAt f h q s a =
       hashes = change (λ x. bitXor x h) s (a .hashes);
       positions = change (λ x. bitXor x q) s (a .positions);
     }
-
--- one more key touches slot s, at position q
-unfoldable pub touch : ℕ → ℕ → ℕ → Sums → Sums
-touch h q s a = changeAt (λ c. c + 1) h q s a
-
--- the key with hash h and slots t is counted
-unfoldable pub addKey : Slots → ℕ → Sums → Sums
-addKey t h a = touch h 2 (t .s2) (touch h 1 (t .s1) (touch h 0 (t .s0) a))
 
 -- ---- the machine
 

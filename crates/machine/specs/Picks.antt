@@ -13,12 +13,12 @@ use Rattle.stuck.specs.Survives.{left-size, none-stuck-iff, stuck-or-none}
 use Rattle.stuck.specs.HowMany.{Sticks, left-sticks}
 use Rattle.stuck.specs.KeyMap.{key-map}
 use Rattle.stuck.specs.Ring.{Apart}
-use Rattle.stuck.specs.Fill.{Entry, fill, entries, AnswersYes}
-use Rattle.stuck.specs.FillAnswers.{every-key-yes}
+use Rattle.stuck.specs.Fill.{Entry, fill, AnswersYes}
+use Rattle.stuck.specs.FillAnswers.{entries, every-key-yes}
 use Rattle.machine.specs.Machine.{sumsOf, scan, picksFrom, picksOf, stores}
 use Rattle.machine.specs.Work.{scan-work}
 use Rattle.machine.specs.Start.{standing-start}
-use Rattle.machine.specs.CompleteRun.{byHash, Outcome, outcome}
+use Rattle.machine.specs.CompleteRun.{byHash, IsCompleteRun, takes-complete}
 
 -- every position is below 3
 abbrev pub SmallPositions : List Pick → Type 0
@@ -44,11 +44,11 @@ module _ (hs : List ℕ) where
 
 module _ (slots : ℕ → Slots) (hs : List ℕ) (n : ℕ) (apart : (i : ℕ) → i < length hs → Apart n (slots (getD hs i 0))) where
   -- an attempt is a complete run from all the keys
-  pub picks-run : Outcome slots hs (everyKey (map slots hs)) (picksOf slots n hs)
+  pub picks-run : IsCompleteRun slots hs (everyKey (map slots hs)) (picksOf slots n hs)
   unfolding picksFrom
   picks-run =
       let a = sumsOf slots n hs in
-      outcome slots hs n apart (length (a .counts)) (everyKey (map slots hs)) a (scan 0 (a .counts) []) (standing-start slots hs n)
+      takes-complete slots hs n apart (length (a .counts)) (everyKey (map slots hs)) a (scan 0 (a .counts) []) (standing-start slots hs n)
       (omega (arith, scan-work 0 (a .counts) []))
 
   picks-length : length (picksOf slots n hs) ≡ length (picks-run .picks)

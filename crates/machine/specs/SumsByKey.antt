@@ -12,7 +12,7 @@ use Rattle.stuck.specs.Stuck.{Slots, slotAt, touches}
 use Rattle.stuck.specs.Touching.{touches-own}
 use Rattle.stuck.specs.Ring.{Apart}
 use Rattle.reorder.specs.Reordered.{Reordered, same, swap, under, then}
-use Rattle.machine.specs.Machine.{Sums, share, totalAll, table, sumsOf, touch, addKey, totals}
+use Rattle.machine.specs.Machine.{Sums, share, totalAll, table, totals, sumsOf, changeAt}
 use Rattle.machine.specs.Share.{share-off, Place, place-of}
 use Rattle.machine.specs.Known.{knownAt, moved, Long, sums-same, changed-long, changed-here, changed-other}
 use Rattle.machine.specs.Order.{sums-reordered}
@@ -30,6 +30,14 @@ unfolding sumsOf totalAll
 sums-none slots n = λ i. record { counts = table-zero 0 n i; hashes = table-zero 0 n i; positions = table-zero 0 n i }
 
 -- ---- a key is added
+
+-- one more key touches slot s, at position q
+unfoldable pub touch : (h q s : ℕ) → Sums → Sums
+touch h q s a = changeAt (λ c. c + 1) h q s a
+
+-- the key with hash h and slots t is counted
+unfoldable pub addKey : (t : Slots) (h : ℕ) → Sums → Sums
+addKey t h a = touch h 2 (t .s2) (touch h 1 (t .s1) (touch h 0 (t .s0) a))
 
 module _ (h q s : ℕ) (a : Sums) where
   pub touch-long : (n : ℕ) → Long n a → Long n (touch h q s a)

@@ -6,9 +6,9 @@ use Prim.Native.Nat.{ℕ, _-_, _<_}
 use lib.ListN.{getD}
 use lib.Dec.{T, eqb, eqb→eq}
 use mir.Facts.{yes-eqb}
-use Rattle.stuck.specs.Stuck.{Slots, slotAt, touches}
+use Rattle.stuck.specs.Stuck.{Slots, slotAt, next, touches}
 use Rattle.stuck.specs.Touching.{touches-own}
-use Rattle.stuck.specs.Ring.{next, Apart, slot-below, AroundFrom, here, one-on, two-on, around, ApartFrom, apart-from}
+use Rattle.stuck.specs.Ring.{Apart, slot-below, AroundFrom, here, one-on, two-on, around, ApartFrom, apart-from}
 use Rattle.machine.specs.Machine.{State, release, takeKey}
 use Rattle.machine.specs.Known.{Known, knownAt, moved, Long, changed-long, changed-here, changed-other}
 use Rattle.machine.specs.Stack.{Stacked, Once, push-keeps, push-there, push-from, push-once}

@@ -11,8 +11,7 @@ use lib.ListN.{length, getD}
 use lib.Dec.{T, eqb, ltb, eqb→eq, ltb→lt}
 use mir.Facts.{yes-ltb}
 use Rattle.stuck.specs.Total.{bit, bit-yes, bit-no}
-use Rattle.stuck.specs.Stuck.{Slots, slotAt}
-use Rattle.stuck.specs.Ring.{next}
+use Rattle.stuck.specs.Stuck.{Slots, slotAt, next}
 use Rattle.machine.specs.Machine.{State, change, changeAt, pushIf, scan, release, takeKey}
 use Rattle.machine.specs.Stack.{push-length}
 

@@ -7,8 +7,7 @@ use lib.ListN.{getD, set}
 use lib.Bits.{bitXor, xor-comm}
 use Rattle.words.specs.Xor.{xor-assoc, xor-cancel-right}
 use Rattle.arith.specs.SlotsPromised.{SlotsAre}
-use Rattle.stuck.specs.Stuck.{Slots, slotAt, Pick, pick}
-use Rattle.stuck.specs.Ring.{next}
+use Rattle.stuck.specs.Stuck.{Slots, slotAt, next, Pick, pick}
 use Rattle.stuck.specs.Fill.{store, fill}
 use Rattle.machine.specs.Machine.{stores}
 use Rattle.peel.specs.Segments.{slotsIn, Segmented}

@@ -9,9 +9,9 @@ use lib.Bits.{bitXor}
 use Rattle.arith.specs.SlotsPromised.{SlotsAre}
 use Rattle.stuck.specs.Stuck.{Slots, slotAt}
 use Rattle.stuck.specs.Ring.{Apart}
-use Rattle.machine.specs.Machine.{Sums, touch, addKey}
+use Rattle.machine.specs.Machine.{Sums}
 use Rattle.machine.specs.Known.{Known}
-use Rattle.machine.specs.SumsByKey.{touch-other}
+use Rattle.machine.specs.SumsByKey.{touch, addKey, touch-other}
 use Rattle.peel.specs.Segments.{slotsIn}
 use Rattle.peel.specs.SlotsApart.{slots-apart}
 use Rattle.peel.specs.Buffers.{maxTouches, sumsIn}

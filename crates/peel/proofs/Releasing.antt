@@ -9,8 +9,8 @@ use lib.Bits.{bitXor}
 use lib.Dec.{eqb}
 use Rattle.arith.specs.SlotsPromised.{SlotsAre}
 use Rattle.stuck.specs.Total.{bit}
-use Rattle.stuck.specs.Stuck.{Slots, slotAt}
-use Rattle.stuck.specs.Ring.{next, Apart, slot-below, apart-from}
+use Rattle.stuck.specs.Stuck.{Slots, slotAt, next}
+use Rattle.stuck.specs.Ring.{Apart, slot-below, apart-from}
 use Rattle.machine.specs.Machine.{Sums, State, change, changeAt, pushIf, release, takeKey}
 use Rattle.machine.specs.Known.{Known}
 use Rattle.machine.specs.Take.{release-other}

@@ -8,10 +8,10 @@ use lib.ListN.{length, getD, take, replicate, length-map}
 use lib.Seq.{take-suc, take-all, length-take-le}
 use Rattle.stuck.specs.Stuck.{Slots}
 use Rattle.stuck.specs.Ring.{Apart}
-use Rattle.machine.specs.Machine.{sumsOf, addKey}
+use Rattle.machine.specs.Machine.{sumsOf}
 use Rattle.machine.specs.Known.{Long}
 use Rattle.machine.specs.Start as Start
-use Rattle.machine.specs.SumsByKey.{sums-none, sums-snoc}
+use Rattle.machine.specs.SumsByKey.{addKey, sums-none, sums-snoc}
 use Rattle.peel.specs.Buffers.{sumsIn}
 use Rattle.peel.specs.CountsExact.{counts-at-most}
 

@@ -1,8 +1,9 @@
 // What each slot knows of the keys that touch it, counted up from cleared buffers.
 ghost use mathlib.Core.Path.{_≡_};
 ghost use lib.ListN.{length};
-ghost use Rattle.machine.specs.Machine as machine;
-ghost use Rattle.machine.specs.Machine.{sumsOf, addKey};
+ghost use Rattle.machine.specs.Machine.{sumsOf};
+ghost use Rattle.machine.specs.SumsByKey as machine;
+ghost use Rattle.machine.specs.SumsByKey.{addKey};
 ghost use Rattle.peel.specs.Segments.{slotsIn};
 ghost use Rattle.peel.specs.Buffers.{sumsIn};
 ghost use Rattle.peel.specs.Requires.{CanTouch, CanAdd, CanCount};

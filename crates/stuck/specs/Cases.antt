@@ -5,7 +5,8 @@ use Prim.Native.Nat.{ℕ, suc, _<_}
 use lib.ListN.{length, replicate}
 use lib.Dec.{lit<}
 use Rattle.stuck.specs.Stuck.{Slots, everyKey, NoneAlone, Stuck, NoneStuck, pick}
-use Rattle.stuck.specs.Fill.{store, fill, entries}
+use Rattle.stuck.specs.Fill.{store, fill}
+use Rattle.stuck.specs.FillAnswers.{entries}
 use Rattle.stuck.specs.Sets.{length-every, has-every}
 use Rattle.stuck.specs.Survives.{none-stuck-iff}
 use Rattle.stuck.specs.Total.{total, count}

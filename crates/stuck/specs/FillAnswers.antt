@@ -11,12 +11,12 @@ use lib.Seq.{getD-set-other, getD-set-same}
 use lib.Bits.{bitXor, xor-comm, xor-self, xor-lt}
 use lib.Dec.{T}
 use Rattle.words.specs.Xor.{xor-assoc, xor-left-comm, xor-cancel-right}
-use Rattle.stuck.specs.Stuck.{Slots, KeySet, slotAt, key, touches, Has, everyKey, without, Pick, Run, done, remove}
+use Rattle.stuck.specs.Stuck.{Slots, slotAt, next, key, touches, KeySet, Has, everyKey, without, Pick, pick, Run, done, remove}
 use Rattle.stuck.specs.Sets.{without-self, without-other, without-within, has-every, every-lt}
 use Rattle.stuck.specs.Survives.{all-removed}
 use Rattle.stuck.specs.Touching.{touches-own}
-use Rattle.stuck.specs.Ring.{next, Apart, slot-below, ApartFrom, apart-from}
-use Rattle.stuck.specs.Fill.{Entry, ownSlot, store, fill, entries, queryXor, AnswersYes, Unused}
+use Rattle.stuck.specs.Ring.{Apart, slot-below, ApartFrom, apart-from}
+use Rattle.stuck.specs.Fill.{Entry, ownSlot, store, fill, queryXor, AnswersYes}
 
 -- ---- one store
 
@@ -82,6 +82,11 @@ unfolding fill
 fill-length [] values = refl
 fill-length (e ∷ r) values = store-length e (fill r values) ∙ fill-length r values
 
+-- no entry is stored at slot s
+abbrev pub Unused : ℕ → List Entry → Type 0
+Unused s [] = Unit {0}
+Unused s (e ∷ r) = (s ≢ ownSlot e) × Unused s r
+
 -- slots never used keep their value
 pub fill-unused : (r : List Entry) (values : List ℕ) (s : ℕ) → Unused s r → getD (fill r values) s 0 ≡ getD values s 0
 unfolding fill
@@ -143,6 +148,15 @@ fill-yes (e ∷ r) values o = (
 )
 
 -- ---- a run removes keys in such an order
+
+-- the removed keys of a run, with a fingerprint for each key
+module _ (keys : List Slots) (fingerprint : ℕ → ℕ) where
+  abbrev pub entry : Pick → Entry
+  entry (pick i p) = record { slots = key keys i; position = p; fingerprint = fingerprint i }
+
+  abbrev pub entries : List Pick → List Entry
+  entries [] = []
+  entries (k ∷ r) = entry k ∷ entries r
 
 module _ (keys : List Slots) (fingerprint : ℕ → ℕ) where
   run-untouched : {m l : KeySet} {r : List Pick} (s : ℕ) → Run keys m r l → ((j : ℕ) → Has m j → ¬ T (touches (key keys j) s))

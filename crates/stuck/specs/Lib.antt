@@ -11,6 +11,7 @@ pub mod PlainComplete
 pub mod RemovesAll
 pub mod HowMany
 pub mod FirstFree
+pub mod FirstOrAll
 pub mod KeyMap
 pub mod EqualSlots
 pub mod FillAnswers

@@ -1,15 +1,9 @@
--- The positions 0, 1, 2 as a ring (document 01: "position p+1 then p+2, modulo 3"), and keys whose three slots differ. Assumes nothing.
+-- Laws of the positions 0, 1, 2 as a ring ("position p+1 then p+2, modulo 3"), and keys whose three slots differ. Assumes nothing.
 use mathlib.Core.Path.{sym}
 use mathlib.Core.Logic.{_≢_}
 use Prim.Native.Nat.{ℕ, zero, suc, _<_}
 use native.Mathlib.Omega.{arith}
-use Rattle.stuck.specs.Stuck.{Slots, slotAt}
-
--- the position after p, modulo 3
-abbrev pub next : ℕ → ℕ
-next zero = 1
-next (suc zero) = 2
-next (suc (suc p)) = 0
+use Rattle.stuck.specs.Stuck.{Slots, slotAt, next}
 
 -- the three slots differ, and are below n
 pub record Apart (n : ℕ) (t : Slots) : Type 0 where

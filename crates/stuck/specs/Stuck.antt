@@ -21,6 +21,12 @@ slotAt t zero = t .s0
 slotAt t (suc zero) = t .s1
 slotAt t (suc (suc p)) = t .s2
 
+-- the position after p, modulo 3
+abbrev pub next : ℕ → ℕ
+next zero = 1
+next (suc zero) = 2
+next (suc (suc p)) = 0
+
 -- (for a place beyond the list)
 abbrev pub nowhere : Slots
 nowhere = record { s0 = 0; s1 = 0; s2 = 0 }
