@@ -12,7 +12,8 @@ use Rattle.descriptor.specs.declared.Descriptor.{Descriptor}
 use Rattle.descriptor.specs.Descriptor.{checkOf}
 use Rattle.descriptor.specs.Accepted.{accepted}
 use Rattle.stuck.specs.Ring.{Apart}
-use Rattle.peel.specs.Segments.{slotsIn, Segmented}
+use Rattle.peel.specs.Segments.{slotsIn}
+use Rattle.peel.specs.Requires.{Segmented}
 use Rattle.peel.specs.SlotsApart.{slots-apart}
 use Rattle.fuse.specs.Query.{fingerprintsFor}
 

@@ -19,7 +19,8 @@ use Rattle.descriptor.specs.Accepted as descriptor
 use Rattle.stuck.specs.Stuck.{NoneStuck, SomeStuck}
 use Rattle.stuck.specs.Survives.{not-both}
 use Rattle.stuck.specs.EqualSlots.{equal-keys-stuck}
-use Rattle.peel.specs.Segments.{Segmented, slotsIn, hashesOf}
+use Rattle.peel.specs.Segments.{slotsIn, hashesOf}
+use Rattle.peel.specs.Requires.{Segmented}
 use Rattle.peel.specs.SlotsApart.{hashes-length, hashes-at}
 use Rattle.peel.specs.Picks.{slotsOfKeys}
 use Rattle.peel.specs.Taken.{taken-all, taken-not-all, fingerprints-length, fingerprints-yes}

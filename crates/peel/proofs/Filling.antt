@@ -10,8 +10,9 @@ use Rattle.arith.specs.SlotsPromised.{SlotsAre}
 use Rattle.stuck.specs.Stuck.{Slots, slotAt, next, Pick, pick}
 use Rattle.stuck.specs.Fill.{store, fill}
 use Rattle.machine.specs.Machine.{stores}
-use Rattle.peel.specs.Segments.{slotsIn, Segmented}
+use Rattle.peel.specs.Segments.{slotsIn}
 use Rattle.peel.specs.Buffers.{picksIn}
+use Rattle.peel.specs.Requires.{Segmented}
 use Rattle.peel.proofs.ThreeSlots.{slot-read}
 
 -- ---- what is xored in twice is gone

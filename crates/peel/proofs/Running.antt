@@ -13,10 +13,10 @@ use Rattle.reorder.specs.Reordered.{Reordered}
 use Rattle.reorder.specs.ReorderedLaws.{reordered-length}
 use Rattle.machine.specs.Machine.{sumsOf, picksFrom}
 use Rattle.machine.specs.Order.{sums-reordered}
-use Rattle.peel.specs.Segments.{slotsIn, Segmented, hashesOf}
+use Rattle.peel.specs.Segments.{slotsIn, hashesOf}
 use Rattle.peel.specs.SlotsApart.{hashes-length, hashes-small}
 use Rattle.peel.specs.Buffers.{sumsIn, picksIn}
-use Rattle.peel.specs.Requires.{CanPlace, CanCount, Scanned, CanTakeAll, CanRun}
+use Rattle.peel.specs.Requires.{Segmented, CanPlace, CanCount, Scanned, CanTakeAll, CanRun}
 use Rattle.peel.specs.Picks.{picksOfKeys}
 
 segment-count : {segment mask span slots : ℕ} (layout : Segmented segment mask span slots) → span / segment ≡ layout .segments

@@ -9,7 +9,8 @@ use Rattle.arith.specs.Slots.{slotsOf}
 use Rattle.arith.specs.SlotsPromised.{SlotsAre}
 use Rattle.stuck.specs.Stuck.{Slots, slotAt}
 use Rattle.stuck.specs.Ring.{Apart, slot-below}
-use Rattle.peel.specs.Segments.{slotsIn, Segmented}
+use Rattle.peel.specs.Segments.{slotsIn}
+use Rattle.peel.specs.Requires.{Segmented}
 use Rattle.peel.specs.SlotsApart.{in-room, slots-apart}
 
 read : (segment mask span hash : ℕ) (three : List ℕ) → three ≡ slotsOf hash segment mask span → (q : ℕ) → q < 3

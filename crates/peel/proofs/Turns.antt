@@ -11,10 +11,10 @@ use Rattle.stuck.specs.Ring.{Apart}
 use Rattle.machine.specs.Machine.{Sums, State, sumsOf, scan, picksFrom, picksOf}
 use Rattle.machine.specs.Work.{many}
 use Rattle.machine.specs.Loop.{Going, going-start, going-skip, going-take, going-end, Took}
-use Rattle.peel.specs.Segments.{slotsIn, Segmented}
+use Rattle.peel.specs.Segments.{slotsIn}
 use Rattle.peel.specs.SlotsApart.{slots-apart}
 use Rattle.peel.specs.Buffers.{countsIn, sumsIn, stackOf, picksIn}
-use Rattle.peel.specs.Requires.{CanTake, TookKey, CanTakeAll}
+use Rattle.peel.specs.Requires.{Segmented, CanTake, TookKey, CanTakeAll}
 use Rattle.peel.specs.PicksIn.{picks-in-length}
 use Rattle.peel.specs.CountsExact.{count-at}
 use Rattle.peel.proofs.Packed.{position-at}

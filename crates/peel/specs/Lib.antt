@@ -1,7 +1,7 @@
 pub mod Segments
-pub mod SlotsApart
 pub mod Buffers
 pub mod Requires
+pub mod SlotsApart
 pub mod Picks
 pub mod PicksIn
 pub mod Taken

@@ -10,14 +10,14 @@ use Rattle.machine.specs.Machine.{picksOf, stores}
 use Rattle.peel.specs.Segments.{slotsIn, hashesOf}
 
 -- the slots of each key
-unfoldable pub slotsOfKeys : ℕ → ℕ → ℕ → ℕ → List ℕ → List Slots
+unfoldable pub slotsOfKeys : (segment mask span seed : ℕ) (keys : List ℕ) → List Slots
 slotsOfKeys segment mask span seed keys = map (slotsIn segment mask span) (hashesOf seed keys)
 
 -- the keys taken, each by its hash and its position, the first taken first
-unfoldable pub picksOfKeys : ℕ → ℕ → ℕ → ℕ → ℕ → List ℕ → List Pick
+unfoldable pub picksOfKeys : (segment mask span slots seed : ℕ) (keys : List ℕ) → List Pick
 picksOfKeys segment mask span slots seed keys = picksOf (slotsIn segment mask span) slots (hashesOf seed keys)
 
 -- the fingerprints of `width` bits, one for each slot: last taken first, and slots never used stay 0
-unfoldable pub fingerprintsOf : ℕ → ℕ → ℕ → ℕ → ℕ → ℕ → List ℕ → List ℕ
+unfoldable pub fingerprintsOf : (width segment mask span slots seed : ℕ) (keys : List ℕ) → List ℕ
 fingerprintsOf width segment mask span slots seed keys =
     fill (stores (slotsIn segment mask span) (fingerprintOf width) (picksOfKeys segment mask span slots seed keys)) (replicate slots 0)

@@ -1,13 +1,27 @@
--- What the functions of an attempt ask of the buffers, and what those promise that say more than one equation. Assumes nothing.
+-- What the functions of an attempt ask of the layout and of the buffers, and what those promise that say more than one equation. Assumes nothing.
 use mathlib.Core.Path.{_≡_}
 use mathlib.Core.List.{List, []}
-use Prim.Native.Nat.{ℕ, _+_, _/_, _^_, _≤_, _<_}
+use Prim.Native.Nat.{ℕ, _+_, _-_, _*_, _/_, _^_, _≤_, _<_}
 use lib.ListN.{length, getD, take, replicate}
 use Rattle.stuck.specs.Stuck.{slotAt}
 use Rattle.machine.specs.Machine.{sumsOf, release, takeKey, scan}
 use Rattle.machine.specs.Work.{many}
-use Rattle.peel.specs.Segments.{slotsIn, Segmented}
+use Rattle.peel.specs.Segments.{slotsIn}
 use Rattle.peel.specs.Buffers.{maxTouches, countsIn, sumsIn, stackOf, stateIn}
+
+-- ---- the layout
+
+-- the three numbers cut so many slots into segments: L is a power of two, the mask L - 1, the span a positive multiple of L, and two more
+-- segments follow it
+pub record Segmented (segment mask span slots : ℕ) : Type 0 where
+  pub exponent : ℕ
+  pub segments : ℕ
+  pub some : 0 < segments
+  pub segment-is : segment ≡ 2 ^ exponent
+  pub mask-is : mask ≡ 2 ^ exponent - 1
+  pub span-is : span ≡ segments * 2 ^ exponent
+  pub slots-are : slots ≡ span + 2 * segment
+  pub numbered : slots < 2 ^ 32
 
 -- ---- placing the hashes
 

@@ -9,7 +9,8 @@ use Rattle.arith.specs.OneToOne.{hash-lt}
 use Rattle.arith.specs.Slots.{slot0, slot1, slot2}
 use Rattle.arith.specs.Spread.{Spread, spread, spread-apart}
 use Rattle.stuck.specs.Ring.{Apart}
-use Rattle.peel.specs.Segments.{slotsIn, Segmented, hashesOf}
+use Rattle.peel.specs.Segments.{slotsIn, hashesOf}
+use Rattle.peel.specs.Requires.{Segmented}
 
 module _ {segment mask span slots : ℕ} (layout : Segmented segment mask span slots) where
   -- no sum of the slots of a hash wraps at 2 ^ 32

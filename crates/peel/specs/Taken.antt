@@ -20,10 +20,10 @@ use Rattle.reorder.specs.ReorderedLaws.{reordered-map}
 use Rattle.machine.specs.Machine.{stores}
 use Rattle.machine.specs.Order.{picks-reordered}
 use Rattle.machine.specs.Picks.{SmallPositions, picks-at-most, picks-small, picks-all, picks-not-all, picks-leave, picks-yes}
-use Rattle.peel.specs.Segments.{slotsIn, Segmented, hashesOf}
+use Rattle.peel.specs.Segments.{slotsIn, hashesOf}
 use Rattle.peel.specs.SlotsApart.{slots-apart, hashes-length, hashes-at, hashes-small}
 use Rattle.peel.specs.Buffers.{picksIn}
-use Rattle.peel.specs.Requires.{CanFill}
+use Rattle.peel.specs.Requires.{Segmented, CanFill}
 use Rattle.peel.specs.Picks.{slotsOfKeys, picksOfKeys, fingerprintsOf}
 use Rattle.peel.specs.PicksIn.{picks-in-length, picks-in-small}
 

@@ -5,9 +5,9 @@ ghost use lib.ListN.{length};
 ghost use Rattle.arith.specs.Fingerprint.{fingerprintOf};
 ghost use Rattle.stuck.specs.Fill.{store, fill};
 ghost use Rattle.machine.specs.Machine.{stores};
-ghost use Rattle.peel.specs.Segments.{slotsIn, Segmented};
+ghost use Rattle.peel.specs.Segments.{slotsIn};
 ghost use Rattle.peel.specs.Buffers.{picksIn};
-ghost use Rattle.peel.specs.Requires.{CanFill};
+ghost use Rattle.peel.specs.Requires.{Segmented, CanFill};
 use arith::fingerprint::fingerprint8;
 use arith::slots::slots;
 
