@@ -17,7 +17,7 @@ use Rattle.descriptor.specs.Lengths.{length-of, at-least, at-most}
 use Rattle.descriptor.specs.Masks.{mask-mod, length-test}
 use Rattle.descriptor.specs.Accepted.{accepted, accepts}
 use Rattle.fuse.specs.Query.{yes?, fingerprintsFor, containsOf, told}
-use Rattle.contains8.specs.Paper.{refusalOf}
+use Rattle.contains8.specs.FirstFault.{firstFault}
 
 -- ---- the tests
 
@@ -73,14 +73,14 @@ refusal w d fingerprints key (refuses number) is other = simp is
 refusal w d fingerprints key (gives done) is other = simp (is, ne-eqb (length fingerprints) (fingerprintsFor d) (other refl))
 
 pub refused-where : (w : ℕ) (d : Descriptor) (fingerprints : List ℕ) (key : ℕ) → (checkOf d ≡ gives done → length fingerprints ≢ fingerprintsFor d)
-    → refusalOf (d .«segment_length») (d .«segment_length_mask») (d .«segment_count_length») ≡ containsOf w d fingerprints key
+    → firstFault (d .«segment_length») (d .«segment_length_mask») (d .«segment_count_length») ≡ containsOf w d fingerprints key
 unfolding checkOf
 refused-where w d fingerprints key other = refusal w d fingerprints key (checkOf d) refl other
 
 -- and so it is where neither yes nor no was told
 pub neither-told : (w : ℕ) (d : Descriptor) (fingerprints : List ℕ) (key : ℕ) {code : ℕ}
     → code ≡ told (containsOf w d fingerprints key) → code ≢ 0 → code ≢ 1
-    → refusalOf (d .«segment_length») (d .«segment_length_mask») (d .«segment_count_length») ≡ containsOf w d fingerprints key
+    → firstFault (d .«segment_length») (d .«segment_length_mask») (d .«segment_count_length») ≡ containsOf w d fingerprints key
 unfolding containsOf
 neither-told w d fingerprints key {code} e not-no not-yes =
     refused-where w d fingerprints key (λ good whole. answered (yes? w d fingerprints key) (simp (good, eq-eqb (length fingerprints) (fingerprintsFor d) whole) at e))

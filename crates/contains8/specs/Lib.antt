@@ -1,3 +1,4 @@
 pub mod Paper
+pub mod FirstFault
 pub mod OneAnswer
 pub mod MustNotFit

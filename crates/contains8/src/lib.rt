@@ -2,7 +2,8 @@
 ghost use mathlib.Core.Path.{_≡_};
 ghost use Rattle.answers.specs.Answers.{numberOf, refuses};
 ghost use Rattle.fuse.specs.Query.{containsOf, containsBytesOf, told};
-ghost use Rattle.contains8.specs.Paper.{paper, refusalOf};
+ghost use Rattle.contains8.specs.Paper.{paper};
+ghost use Rattle.contains8.specs.FirstFault.{firstFault};
 use answers::Refusal;
 use descriptor::CheckAnswer;
 use descriptor::DESCRIPTOR_SIZE;
@@ -98,14 +99,14 @@ fn ask(d: Descriptor, fingerprints: &[u8], key: u64) -> u32
 
 // What a C program is told where one of checks 8 to 11 fails.
 fn refused(segment: u32, mask: u32, span: u32) -> u32
-    ensures { λ r. ⌜ r ≡ told (refusalOf segment mask span) ⌝ }
+    ensures { λ r. ⌜ r ≡ told (firstFault segment mask span) ⌝ }
 {
     answers::code(refusal(segment, mask, span))
 }
 
 // Which of checks 8 to 11 fails first, where one does. None looks at the seed.
 fn refusal(segment: u32, mask: u32, span: u32) -> Refusal
-    ensures { λ r. ⌜ refuses (numberOf r) ≡ refusalOf segment mask span ⌝ }
+    ensures { λ r. ⌜ refuses (numberOf r) ≡ firstFault segment mask span ⌝ }
 {
     let checked = descriptor::check(Descriptor {
         seed: 0,

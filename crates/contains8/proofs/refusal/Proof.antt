@@ -4,7 +4,7 @@ use Rattle.answers.specs.Answers.{Answer, refuses}
 use Rattle.answers.specs.Checks.{Done, _then_}
 use Rattle.descriptor.specs.declared.CheckAnswer.{CheckAnswer}
 use Rattle.descriptor.specs.Paper.{checkPaper}
-use Rattle.contains8.specs.Paper.{refusalOf}
+use Rattle.contains8.specs.FirstFault.{firstFault}
 use borrow.Author.Needs.{needs}
 use Rattle.contains8.proofs.refusal.Statement.{statement}
 use Rattle.contains8.proofs.refusal.Tie as tie
@@ -20,7 +20,7 @@ enum-known-checked c = search needs
 
 -- the refusal where `check` answered so
 answer : (c : tie.After-check) (checked : CheckAnswer) → checked ≡ c .check .result → let a = c .before .args in
-    checkPaper checked then refuses 11 ≡ refusalOf (a .segment) (a .mask) (a .span)
+    checkPaper checked then refuses 11 ≡ firstFault (a .segment) (a .mask) (a .span)
 answer c checked e = ap (λ (checks : Answer Done). checks then refuses 11) (ap checkPaper e ∙ c .check .ensures)
 
 returns : tie.Need-returns
