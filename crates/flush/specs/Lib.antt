@@ -1,4 +1,3 @@
 pub mod FlushKey
 pub mod KeysApart
 pub mod OneAnswer
-pub mod C13
