@@ -16,15 +16,19 @@ maxSlots = 5632
 unfoldable pub reaches : ℕ → ℕ → Bool
 reaches n e = leb (333 ^ (4 * e - 9)) (n ^ 4 * 100 ^ (4 * e - 9))
 
--- the greatest of the k numbers from 3 on that passes the test, and 2 where none does
-abbrev pub greatest : (ℕ → Bool) → ℕ → ℕ
+-- the greatest of the k numbers 3 to k + 2 that passes the test, and 2 where none does
+abbrev pub greatest : (passes : ℕ → Bool) (k : ℕ) → ℕ
 greatest passes zero = 2
 greatest passes (suc k) = elim (passes (3 + k)) [ true ↦ 3 + k | false ↦ greatest passes k ]
 
--- The greatest e, at least 3, that reaches, and 2 where none does, as at size 0. It is sought up to 18, since 2^18 is the longest segment
--- that a descriptor may have. (No greater e reaches for any size up to the limit: Exponent.antt.)
+-- the last e that is sought: 2^18 is the longest segment that a descriptor may have
+abbrev pub lastSought : ℕ
+lastSought = 18
+
+-- The greatest e, at least 3, that reaches, and 2 where none does, as at size 0. (None after the last one sought reaches, for any size up to
+-- the limit: Exponent.antt.)
 unfoldable pub exponentOf : ℕ → ℕ
-exponentOf n = greatest (reaches n) 16
+exponentOf n = greatest (reaches n) (lastSought - 2)
 
 abbrev pub segmentLengthOf : ℕ → ℕ
 segmentLengthOf n = 2 ^ exponentOf n
