@@ -1,5 +1,5 @@
--- The paper's reading of what a build answers: document 01's number for each refusal, and for a success the descriptor, A and the attempt
--- number. Assumes nothing.
+-- Document 01, "Answers": the paper's number for each refusal of a build, and for a success the descriptor, A and the attempt number.
+-- Assumes nothing.
 use Rattle.answers.specs.Answers.{numberOf, Answer, refuses, gives}
 use Rattle.fuse.specs.Build.{Success, success}
 use Rattle.bfuse8.specs.declared.BuildAnswer.{BuildAnswer}

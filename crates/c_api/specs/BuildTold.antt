@@ -1,5 +1,6 @@
--- Document 01's build for a C program, with a room for the descriptor's 20 bytes beside the memory that a build is lent: what it is told, and all
--- that it lent. Assumes nothing.
+-- Ours, not document 01's, which exports only the query: the build (document 01, "Answers") offered to C as well, with a room for the descriptor's
+-- 20 bytes. A short room is refused with 7 before all else, so that a build that succeeds can always write its descriptor. What the C program
+-- is told, and all that it lent. Assumes nothing.
 use mathlib.Core.Bool.{cond}
 use mathlib.Core.List.{List, _++_}
 use Prim.Native.Nat.{ℕ, _+_}
@@ -27,7 +28,7 @@ abbrev pub toldBuilt : Answer Success → Memory → (room : List ℕ) → Build
 toldBuilt (gives s) memory room = buildTold (s .attempt) memory (encode (s .descriptor) ++ drop descriptorSize room)
 toldBuilt (refuses number) memory room = buildTold (refusalCode number) memory room
 
--- a room under 20 bytes is refused with 7 before anything else
+-- a room under 20 bytes is refused with 7 before all else
 abbrev pub toldBuild : (w : ℕ) → List ℕ → (limit : ℕ) → Memory → (room : List ℕ) → BuildTold
 toldBuild w keys limit memory room =
     let o = buildOf w keys limit memory in

@@ -1,4 +1,5 @@
--- Document 01, "Flush key" and answer 12, for a C program: what it is told, and what its key then holds. Assumes nothing.
+-- Ours, not document 01's, which exports only the query: the flush key (document 01, "Flush key" and answer 12) offered to C as well. What
+-- the C program is told, and what its key then holds. Assumes nothing.
 use Prim.Native.Nat.{ℕ, _+_}
 use Rattle.answers.specs.Answers.{Answer, refuses, gives}
 
