@@ -1,6 +1,6 @@
 -- Document 01, "Answers": the number of each refusal, given exactly when the comment says; and what a call answers and leaves,
 -- in the paper's numbers. Assumes nothing.
-use Prim.Native.Nat.{ℕ}
+use Prim.Native.Nat.{ℕ, _+_}
 use Rattle.answers.specs.declared.Refusal.{Refusal}
 use Rattle.answers.specs.declared.Refusal.the-variants.{TooManyKeys, AttemptOutOfRange, ShortFingerprints, ShortScratch, RepeatedKeys, Stuck}
 use Rattle.answers.specs.declared.Refusal.the-variants.{ShortDescriptor, SegmentLength, Mask, CountLength, FingerprintLength, Clock}
@@ -18,6 +18,10 @@ numberOf Mask = 9  -- mask is not L - 1
 numberOf CountLength = 10  -- segment count length 0, no multiple of L, or with 2L added above 2^31 - 1
 numberOf FingerprintLength = 11  -- fingerprints given are not exactly that length + 2L
 numberOf Clock = 12  -- clock below zero, or flush hour above 2^39 - 1
+
+-- what a C program is told of a refusal: "16 plus the number"
+abbrev pub codeOf : (number : ℕ) → ℕ
+codeOf number = 16 + number
 
 -- what a call answers: a refusal by its number, or a value
 pub data Answer (A : Type 0) : Type 0 where

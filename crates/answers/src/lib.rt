@@ -1,7 +1,6 @@
 // Why a call refuses: document 01's twelve refusals, shared by all crates that answer with one.
 ghost use mathlib.Core.Path.{_≡_};
-ghost use Prim.Native.Nat.{_+_};
-ghost use Rattle.answers.specs.Answers.{numberOf};
+ghost use Rattle.answers.specs.Answers.{numberOf, codeOf};
 
 // `numberOf` has the paper's number of each, and when it is given.
 pub enum Refusal {
@@ -41,7 +40,7 @@ pub fn number(refusal: Refusal) -> u32
 
 // What a C program is told of a refusal.
 pub fn code(refusal: Refusal) -> u32
-    ensures { λ r. ⌜ r ≡ 16 + numberOf refusal ⌝ }
+    ensures { λ r. ⌜ r ≡ codeOf (numberOf refusal) ⌝ }
 {
     16 + number(refusal)
 }

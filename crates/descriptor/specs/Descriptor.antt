@@ -30,8 +30,8 @@ abbrev pub longest : ℕ
 longest = 2 ^ 31 - 1
 
 -- segment count length 0, no multiple of L, or with 2L added above 2 ^ 31 - 1
-unfoldable pub badCount : (l count : ℕ) → Bool
-badCount l count = eqb count 0 || (not (eqb (count % l) 0) || ltb longest (count + 2 * l))
+unfoldable pub badCount : (l span : ℕ) → Bool
+badCount l span = eqb span 0 || (not (eqb (span % l) 0) || ltb longest (span + 2 * l))
 
 unfoldable pub checkOf : Descriptor → Answer Done
 checkOf d =

@@ -1,5 +1,6 @@
--- The user's third demand in its own words, for the attempts `first` to `last` and fingerprints of w bits. A build has the attempts 1 to its
--- limit, a single attempt just its number. (It follows from the outcome: Demanded.antt.) Assumes nothing.
+-- Document 01, answers 5 and 6 and "What the promises say": the demand that a build stops at the first allowed attempt without a stuck set and that every
+-- listed key then answers yes. It stands beside the equation, which fixes the rest, and follows from it (Demanded.antt). A build has the attempts 1 to its
+-- limit, a single attempt just its number; fingerprints have w bits. Assumes nothing.
 use mathlib.Core.Path.{_≡_}
 use mathlib.Core.Logic.{_↔_}
 use mathlib.Core.Bool.{true}
@@ -31,4 +32,4 @@ pub record Demand3 (w : ℕ) (keys : List ℕ) (first last : ℕ) (memory : Memo
   -- 5 exactly when two keys are equal and nothing earlier refuses
   pub five : (answer ≡ refuses 5) ↔ ((checked (length keys) last memory ≡ gives done) × Twice keys)
   -- 6 exactly when each allowed attempt has a stuck set and nothing earlier refuses
-  pub six : (answer ≡ refuses 6) ↔ ((checked (length keys) last memory ≡ gives done) × ((Twice keys → ⊥) × AllStuck (slotsAt keys) first last))
+  pub six : (answer ≡ refuses 6) ↔ ((checked (length keys) last memory ≡ gives done) × ((¬ Twice keys) × AllStuck (slotsAt keys) first last))

@@ -24,11 +24,6 @@ pub record Memory : Type 0 where
 abbrev pub memory : (fingerprints lone counts sums positions order starts : List ℕ) → Memory
 memory f l c s p o b = record { fingerprints = f; lone = l; counts = c; sums = s; positions = p; order = o; starts = b }
 
--- the lengths of the seven
-abbrev pub lengthsOf : Memory → (ℕ → ℕ → ℕ → ℕ → ℕ → ℕ → ℕ → Answer Done) → Answer Done
-lengthsOf m f =
-    f (length (m .fingerprints)) (length (m .lone)) (length (m .counts)) (length (m .sums)) (length (m .positions)) (length (m .order)) (length (m .starts))
-
 -- "lone list A, touch counts A, hash sums A, positions n, order n + 1, bucket starts P": one of them is shorter
 abbrev pub short? : (n lone counts sums positions order starts : ℕ) → Bool
 short? n lone counts sums positions order starts =
@@ -42,8 +37,11 @@ checksOf n limit fingerprints lone counts sums positions order starts =
     then refuseIf (ltb fingerprints (slotsOf n)) 3
     then refuseIf (short? n lone counts sums positions order starts) 4
 
+-- the same of the memory lent
 abbrev pub checked : (n limit : ℕ) → Memory → Answer Done
-checked n limit m = lengthsOf m (checksOf n limit)
+checked n limit m =
+    checksOf n limit (length (m .fingerprints)) (length (m .lone)) (length (m .counts)) (length (m .sums)) (length (m .positions)) (length (m .order))
+    (length (m .starts))
 
 -- the first n elements become these, the rest stays as it was
 abbrev pub begins : (n : ℕ) (these all : List ℕ) → List ℕ

@@ -7,7 +7,7 @@ use lib.ListN.{length}
 use lib.Dec.{eqb, ltb}
 use Rattle.arith.specs.Murmur3.{hashOf}
 use Rattle.arith.specs.Fingerprint.{fingerprintOf}
-use Rattle.answers.specs.Answers.{Answer, refuses, gives}
+use Rattle.answers.specs.Answers.{codeOf, Answer, refuses, gives}
 use Rattle.answers.specs.Checks.{Done, refuseIf, _then_}
 use Rattle.descriptor.specs.declared.Descriptor.{Descriptor}
 use Rattle.descriptor.specs.Descriptor.{checkOf, descriptorSize, descriptorOf}
@@ -44,4 +44,4 @@ containsBytesOf w bytes fingerprints key = refuseIf (ltb (length bytes) descript
 abbrev pub told : Answer Bool → ℕ
 told (gives false) = 0
 told (gives true) = 1
-told (refuses number) = 16 + number
+told (refuses number) = codeOf number

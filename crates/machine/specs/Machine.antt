@@ -95,7 +95,7 @@ unfoldable pub pop : (ℕ → Slots) → Sums → List ℕ → (State → List P
 pop slots a [] again = []
 pop slots a (s ∷ stack) again = atSlot slots (eqb (getD (a .counts) s 0) 1) s (record { sums = a; stack = stack }) again
 
--- the keys that are taken, each by its hash and its position, the first taken first; at most `turns` slots are popped
+-- the keys that are taken, the first taken first: a `pick` holds the hash of a key here, and its position; at most `turns` slots are popped
 unfoldable pub takes : (ℕ → Slots) → ℕ → State → List Pick
 takes slots zero st = []
 takes slots (suc turns) st = pop slots (st .sums) (st .stack) (λ st′. takes slots turns st′)

@@ -10,10 +10,6 @@ use lib.ListN.{length, getD, take, drop}
 use lib.Seq.{drop-cons, getD-drop, drop-drop}
 use Rattle.words.specs.Bytes.{numberAt, bytesOf}
 
-pub length-bytes : (k x : ℕ) → length (bytesOf k x) ≡ k
-length-bytes zero x = refl
-length-bytes (suc k) x = ap suc (length-bytes k (x / 256))
-
 -- ---- from a number to its bytes, and back
 
 first-of-take : (k : ℕ) (bs : List ℕ) → getD (take (suc k) bs) 0 0 ≡ getD bs 0 0
