@@ -1,11 +1,10 @@
 // The descriptor: checks 8 to 10 at their borders, 7 and the twenty bytes read and written.
-use crate::print;
 use descriptor::CheckAnswer;
 use descriptor::Descriptor;
 use descriptor::ReadAnswer;
 use descriptor::WriteAnswer;
 
-fn made(seed: u64, segment: u32, mask: u32, span: u32) -> Descriptor {
+pub fn made(seed: u64, segment: u32, mask: u32, span: u32) -> Descriptor {
     Descriptor {
         seed,
         segment_length: segment,
@@ -14,51 +13,51 @@ fn made(seed: u64, segment: u32, mask: u32, span: u32) -> Descriptor {
     }
 }
 
-fn fields(d: Descriptor) {
-    print::named(b"L", d.segment_length as u64);
-    print::named(b"mask", d.segment_length_mask as u64);
-    print::named(b"count length", d.segment_count_length as u64);
+pub fn fields(d: Descriptor) {
+    printing::named(b"L", d.segment_length as u64);
+    printing::named(b"mask", d.segment_length_mask as u64);
+    printing::named(b"count length", d.segment_count_length as u64);
 }
 
 fn check(segment: u32, mask: u32, span: u32) {
     let d = made(1, segment, mask, span);
-    print::text(b"check");
+    printing::text(b"check");
     fields(d);
     let answer = descriptor::check(d);
     match answer {
-        CheckAnswer::Good => print::text(b": good\n"),
-        CheckAnswer::Refused(why) => print::refused(why),
+        CheckAnswer::Good => printing::text(b": good\n"),
+        CheckAnswer::Refused(why) => printing::refused(why),
     }
 }
 
 fn read(bytes: &[u8]) {
-    print::text(b"read");
-    print::named(b"bytes", bytes.len() as u64);
+    printing::text(b"read");
+    printing::named(b"bytes", bytes.len() as u64);
     let answer = descriptor::read(bytes);
     match answer {
         ReadAnswer::Good(d) => {
-            print::text(b":");
-            print::named(b"seed", d.seed);
+            printing::text(b":");
+            printing::named(b"seed", d.seed);
             fields(d);
-            print::text(b"\n");
+            printing::line_end();
         }
-        ReadAnswer::Refused(why) => print::refused(why),
+        ReadAnswer::Refused(why) => printing::refused(why),
     }
 }
 
 fn write(d: Descriptor, room: &mut [u8]) {
-    print::text(b"write into");
-    print::bytes(&room[..]);
+    printing::text(b"write into");
+    printing::bytes(&room[..]);
     let answer = descriptor::write(d, room);
     match answer {
-        WriteAnswer::Done => print::text(b"write: done\n"),
+        WriteAnswer::Done => printing::text(b"write: done\n"),
         WriteAnswer::Refused(why) => {
-            print::text(b"write");
-            print::refused(why);
+            printing::text(b"write");
+            printing::refused(why);
         }
     }
-    print::text(b"leaves");
-    print::bytes(&room[..]);
+    printing::text(b"leaves");
+    printing::bytes(&room[..]);
 }
 
 fn short_segments() {
@@ -128,31 +127,20 @@ fn room_of_25() {
     write(made(1, 4, 3, 4), &mut room);
 }
 
-// The twenty bytes of seed 1, with these lowest bytes of L, mask and count length.
+// The twenty bytes of seed 1, with these lowest bytes of L, mask and count length, and one byte more.
+pub fn bytes_of(segment: u8, mask: u8, span: u8) -> [u8; 21] {
+    let mut bytes = [0u8; 21];
+    bytes[0] = 1;
+    bytes[8] = segment;
+    bytes[12] = mask;
+    bytes[16] = span;
+    bytes[20] = 170;
+    bytes
+}
+
 fn read_with(segment: u8, mask: u8, span: u8) {
-    let bytes = [
-        1u8,
-        0,
-        0,
-        0,
-        0,
-        0,
-        0,
-        0,
-        segment,
-        0,
-        0,
-        0,
-        mask,
-        0,
-        0,
-        0,
-        span,
-        0,
-        0,
-        0,
-    ];
-    read(&bytes);
+    let bytes = bytes_of(segment, mask, span);
+    read(&bytes[0..20]);
 }
 
 fn damaged_bytes() {

@@ -1,37 +1,34 @@
 // The flush key: C13, and refusal 12 at both ends of the clock.
-use crate::print;
 use flush::KeyAnswer;
 
-fn key(unit: u16, valve: u8, seconds: i64) {
-    print::text(b"flush");
-    print::named(b"unit", unit as u64);
-    print::named(b"valve", valve as u64);
+fn key(when: &[u8], unit: u16, valve: u8, seconds: i64) {
+    printing::text(when);
+    printing::text(b": flush");
+    printing::named(b"unit", unit as u64);
+    printing::named(b"valve", valve as u64);
     let answer = flush::flush_key(unit, valve, seconds);
     match answer {
         KeyAnswer::Key(key) => {
-            print::text(b": key ");
-            print::number(key);
-            print::text(b"\n");
+            printing::text(b":");
+            printing::named(b"key", key);
+            printing::line_end();
         }
-        KeyAnswer::Refused(why) => print::refused(why),
+        KeyAnswer::Refused(why) => printing::refused(why),
     }
 }
 
 pub fn run() {
-    print::text(b"second 7199: ");
-    key(1, 2, 7199);
-    print::text(b"second 7200: ");
-    key(1, 2, 7200);
-    print::text(b"second -1: ");
-    key(1, 2, -1);
-    print::text(b"second 0: ");
-    key(0, 0, 0);
-    print::text(b"the last second of hour 2^39 - 1: ");
-    key(65535, 255, 1979120929996799);
-    print::text(b"the second after it: ");
-    key(65535, 255, 1979120929996800);
-    print::text(b"the last second of all: ");
-    key(0, 0, 9223372036854775807);
-    print::text(b"the first second of all: ");
-    key(0, 0, -9223372036854775808);
+    key(b"second 7199", 1, 2, 7199);
+    key(b"second 7200", 1, 2, 7200);
+    key(b"second -1", 1, 2, -1);
+    key(b"second 0", 0, 0, 0);
+    key(
+        b"the last second of hour 2^39 - 1",
+        65535,
+        255,
+        1979120929996799,
+    );
+    key(b"the second after it", 65535, 255, 1979120929996800);
+    key(b"the last second of all", 0, 0, 9223372036854775807);
+    key(b"the first second of all", 0, 0, -9223372036854775808);
 }

@@ -1,74 +1,43 @@
 // The query: refusals 7 to 11 at their borders, asked of the bytes and of the record.
-use crate::print;
+use crate::descriptors;
 use contains8::ContainsAnswer;
-use descriptor::Descriptor;
 
 // Under seed 1 its hash is 0, and so its fingerprint is 0.
 const HASH_ZERO: u64 = 18446744073709551615;
 
 fn told(answer: ContainsAnswer) {
     match answer {
-        ContainsAnswer::No => print::text(b": no"),
-        ContainsAnswer::Yes => print::text(b": yes"),
-        ContainsAnswer::Refused(why) => print::refusal(why),
+        ContainsAnswer::No => printing::text(b": no"),
+        ContainsAnswer::Yes => printing::text(b": yes"),
+        ContainsAnswer::Refused(why) => printing::refusal(why),
     }
 }
 
 fn by_bytes(descriptor: &[u8], fingerprints: &[u8], key: u64) {
-    print::text(b"query");
-    print::named(b"bytes", descriptor.len() as u64);
-    print::named(b"fingerprints", fingerprints.len() as u64);
-    print::named(b"key", key);
+    printing::text(b"query");
+    printing::named(b"bytes", descriptor.len() as u64);
+    printing::named(b"fingerprints", fingerprints.len() as u64);
+    printing::named(b"key", key);
     told(contains8::contains_bytes(descriptor, fingerprints, key));
-    print::text(b";");
-    print::named(
+    printing::text(b";");
+    printing::named(
         b"C is told",
         contains8::contains_told(descriptor, fingerprints, key) as u64,
     );
-    print::line_end();
+    printing::line_end();
 }
 
 fn by_record(segment: u32, mask: u32, span: u32, fingerprints: &[u8]) {
-    print::text(b"query");
-    print::named(b"L", segment as u64);
-    print::named(b"mask", mask as u64);
-    print::named(b"count length", span as u64);
-    print::named(b"fingerprints", fingerprints.len() as u64);
-    let d = Descriptor {
-        seed: 1,
-        segment_length: segment,
-        segment_length_mask: mask,
-        segment_count_length: span,
-    };
+    let d = descriptors::made(1, segment, mask, span);
+    printing::text(b"query");
+    descriptors::fields(d);
+    printing::named(b"fingerprints", fingerprints.len() as u64);
     told(contains8::contains(d, fingerprints, HASH_ZERO));
-    print::line_end();
+    printing::line_end();
 }
 
-// The bytes of seed 1, L 4, mask 3, count length 4, and one more.
 fn lengths() {
-    let bytes = [
-        1u8,
-        0,
-        0,
-        0,
-        0,
-        0,
-        0,
-        0,
-        4,
-        0,
-        0,
-        0,
-        3,
-        0,
-        0,
-        0,
-        4,
-        0,
-        0,
-        0,
-        170,
-    ];
+    let bytes = descriptors::bytes_of(4, 3, 4);
     let fingerprints = [0u8; 13];
     by_bytes(&bytes[0..19], &fingerprints[0..12], HASH_ZERO);
     by_bytes(&bytes[0..20], &fingerprints[0..12], HASH_ZERO);

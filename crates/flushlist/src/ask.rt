@@ -2,7 +2,6 @@
 use crate::files;
 use crate::messages;
 use crate::pack::MAX_SLOTS;
-use crate::print;
 use contains8::ContainsAnswer;
 use descriptor::DESCRIPTOR_SIZE;
 use due_text::line::Line;
@@ -33,8 +32,8 @@ fn ask_bytes(list: &[u8], bytes: &[u8], key: u64) {
     let head = io::count(DESCRIPTOR_SIZE as isize, bytes);
     let answer = contains8::contains_bytes(&bytes[..head], &bytes[head..], key);
     match answer {
-        ContainsAnswer::Yes => print::text(b"due\n"),
-        ContainsAnswer::No => print::text(b"not due\n"),
+        ContainsAnswer::Yes => printing::text(b"due\n"),
+        ContainsAnswer::No => printing::text(b"not due\n"),
         ContainsAnswer::Refused(why) => messages::refused_list(list, why),
     }
 }

@@ -3,7 +3,6 @@ ghost use mathlib.Core.Path.{_≡_};
 ghost use lib.ListN.{length};
 use crate::files;
 use crate::messages;
-use crate::print;
 use bfuse8::BuildAnswer;
 use descriptor::DESCRIPTOR_SIZE;
 use descriptor::Descriptor;
@@ -102,12 +101,12 @@ fn save(d: Descriptor, fingerprints: &[u8], list: &[u8]) -> bool {
 
 // As `due.list: keys 12, fingerprints 48, attempt 1`.
 fn tell(list: &[u8], keys: usize, slots: usize, attempt: u32) {
-    print::text(list);
-    print::text(b": keys ");
-    print::number(keys as u64);
-    print::text(b", fingerprints ");
-    print::number(slots as u64);
-    print::text(b", attempt ");
-    print::number(attempt as u64);
-    print::text(b"\n");
+    printing::text(list);
+    printing::text(b": keys ");
+    printing::number(keys as u64);
+    printing::text(b", fingerprints ");
+    printing::number(slots as u64);
+    printing::text(b", attempt ");
+    printing::number(attempt as u64);
+    printing::line_end();
 }

@@ -2,11 +2,10 @@
 use crate::ask;
 use crate::messages;
 use crate::pack;
-use crate::print;
 use due_text::line;
 
 pub fn run() {
-    print::text(b"$ flushlist pack due.txt due.list\n");
+    printing::text(b"$ flushlist pack due.txt due.list\n");
     if !pack::run(b"due.txt", b"due.list") {
         messages::usage();
         return;
@@ -22,8 +21,8 @@ pub fn run() {
 }
 
 fn asked(question: &[u8]) {
-    print::text(b"$ flushlist ask due.list ");
-    print::text(question);
-    print::text(b"\n");
+    printing::text(b"$ flushlist ask due.list ");
+    printing::text(question);
+    printing::line_end();
     ask::run(b"due.list", line::read(question));
 }

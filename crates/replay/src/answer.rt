@@ -2,7 +2,6 @@
 use answers::Refusal;
 use bfuse8::BuildAnswer;
 use descriptor::Descriptor;
-use libc::STDOUT_FILENO;
 
 const LIMIT: u32 = 1000;
 
@@ -11,16 +10,6 @@ pub const MOST_KEYS: usize = 4096;
 const MOST_SLOTS: usize = 5632;
 
 const MOST_STARTS: usize = 64;
-
-pub fn text(bytes: &[u8]) {
-    io::write_all(STDOUT_FILENO, bytes);
-}
-
-// A number, after a space.
-pub fn number(x: u64) {
-    text(b" ");
-    io::print_decimal(STDOUT_FILENO, x);
-}
 
 pub fn print(keys: &[u64]) {
     let mut fingerprints = [0u8; MOST_SLOTS];
@@ -48,17 +37,17 @@ pub fn print(keys: &[u64]) {
 }
 
 fn built(d: Descriptor, fingerprints: &[u8], slots: usize) {
-    number(d.seed);
-    number(d.segment_length as u64);
-    number(d.segment_count_length as u64);
-    number(samples::digest(fingerprints, slots));
-    text(b"\n");
+    printing::spaced(d.seed);
+    printing::spaced(d.segment_length as u64);
+    printing::spaced(d.segment_count_length as u64);
+    printing::spaced(samples::digest(fingerprints, slots));
+    printing::line_end();
 }
 
 // No free attempt is told by four zeros. The Rust's list has no other refusal.
 fn refused(why: Refusal) {
     match why {
-        Refusal::Stuck => text(b" 0 0 0 0\n"),
-        _ => text(b" refused\n"),
+        Refusal::Stuck => printing::text(b" 0 0 0 0\n"),
+        _ => printing::text(b" refused\n"),
     }
 }

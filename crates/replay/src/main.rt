@@ -7,24 +7,24 @@ mod special;
 use answer::MOST_KEYS;
 
 fn head() {
-    answer::text(
+    printing::text(
         b"# Made by tools/make-replay: what BinaryFuse8::try_from of the Rust crate xorf 0.13.0 answers, built for release.\n",
     );
-    answer::text(
+    printing::text(
         b"# A line is: 0 n, or 1 n and n keys; then seed, segment length, segment count length, digest of the fingerprints.\n",
     );
-    answer::text(
+    printing::text(
         b"# After 0 n the keys are mix64(n * 2^32 + i + 1) for i = 0 .. n-1. Four zeros: no attempt from 1 to 1000 is free.\n",
     );
-    answer::text(
+    printing::text(
         b"# The digest begins as 14695981039346656037; each byte is xored into it, then it is multiplied by 1099511628211 modulo 2^64.\n",
     );
 }
 
 fn filled(keys: &mut [u64]) {
     samples::of_size(keys);
-    answer::text(b"0");
-    answer::number(keys.len() as u64);
+    printing::text(b"0");
+    printing::spaced(keys.len() as u64);
     answer::print(keys);
 }
 

@@ -2,18 +2,10 @@
 use crate::answer;
 
 fn listed(keys: &[u64]) {
-    answer::text(b"1");
-    answer::number(keys.len() as u64);
-    each(keys);
+    printing::text(b"1");
+    printing::spaced(keys.len() as u64);
+    printing::numbers(keys);
     answer::print(keys);
-}
-
-fn each(keys: &[u64]) {
-    let mut i = 0;
-    while i < keys.len() {
-        answer::number(keys[i]);
-        i += 1;
-    }
 }
 
 fn two(first: u64, second: u64) {

@@ -3,17 +3,12 @@
 // - splitmix64 from state 1477776061723855037: the test of `SplitMix64` in the Rust crate rand_xoshiro, made with Vigna's C.
 // - MurmurHash3 (x64, 128 bits) of short texts: `Murmur3Hash128Test` of Google's Guava. A text of at most eight bytes is one
 //   word; two runs of fmix64, our `mix64`, finish it.
-use libc::STDOUT_FILENO;
-
-fn say(text: &[u8]) {
-    io::write_all(STDOUT_FILENO, text);
-}
 
 // Prints the generator's next output, and answers its next state.
 fn splitmix64(state: u64) -> u64 {
     let next = std::num::wrapping_add_u64(state, 0x9e37_79b9_7f4a_7c15);
-    io::print_decimal(STDOUT_FILENO, arith::splitmix64::output(next));
-    say(b"\n");
+    printing::number(arith::splitmix64::output(next));
+    printing::line_end();
     next
 }
 
@@ -36,18 +31,20 @@ fn murmur3(text: u64, size: u64, seed: u64) {
     let high_mixed = arith::murmur3::mix64(high);
     let first_half = std::num::wrapping_add_u64(arith::murmur3::mix64(low), high_mixed);
     let second_half = std::num::wrapping_add_u64(high_mixed, first_half);
-    io::print_hex(STDOUT_FILENO, first_half, 16);
-    say(b" ");
-    io::print_hex(STDOUT_FILENO, second_half, 16);
-    say(b"\n");
+    printing::hex(first_half, 16);
+    printing::text(b" ");
+    printing::hex(second_half, 16);
+    printing::line_end();
 }
 
 fn main() {
-    say(b"splitmix64 from state 1234567\n");
+    printing::text(b"splitmix64 from state 1234567\n");
     five_outputs(1234567);
-    say(b"splitmix64 from state 1477776061723855037\n");
+    printing::text(b"splitmix64 from state 1477776061723855037\n");
     five_outputs(1477776061723855037);
-    say(b"MurmurHash3 of hell, hello, hello_, hello_w, hello_wo (_ is a space), seeds 0 to 4\n");
+    printing::text(
+        b"MurmurHash3 of hell, hello, hello_, hello_w, hello_wo (_ is a space), seeds 0 to 4\n",
+    );
     murmur3(0x6c6c_6568, 4, 0);
     murmur3(0x6f_6c6c_6568, 5, 1);
     murmur3(0x206f_6c6c_6568, 6, 2);

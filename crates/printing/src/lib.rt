@@ -1,4 +1,5 @@
-// Printing, for all the cases.
+// Printing to standard output, for every program: texts, numbers, bytes, and refusals by their number. No contract can say what is
+// written, so these functions are only proved safe; what a program prints is held to its file `stdout`.
 use answers::Refusal;
 use libc::STDOUT_FILENO;
 
@@ -6,16 +7,30 @@ pub fn text(bytes: &[u8]) {
     io::write_all(STDOUT_FILENO, bytes);
 }
 
+pub fn line_end() {
+    text(b"\n");
+}
+
 pub fn number(x: u64) {
     io::print_decimal(STDOUT_FILENO, x);
+}
+
+// In hexadecimal, with this many digits.
+pub fn hex(x: u64, digits: usize) {
+    io::print_hex(STDOUT_FILENO, x, digits);
+}
+
+// A number, after a space.
+pub fn spaced(x: u64) {
+    text(b" ");
+    number(x);
 }
 
 // Numbers, each after a space.
 pub fn numbers(all: &[u64]) {
     let mut i = 0;
     while i < all.len() {
-        text(b" ");
-        number(all[i]);
+        spaced(all[i]);
         i += 1;
     }
 }
@@ -24,13 +39,12 @@ pub fn numbers(all: &[u64]) {
 pub fn named(name: &[u8], x: u64) {
     text(b" ");
     text(name);
-    text(b" ");
-    number(x);
+    spaced(x);
 }
 
 pub fn refusal(why: Refusal) {
-    text(b": refused ");
-    number(answers::number(why) as u64);
+    text(b": refused");
+    spaced(answers::number(why) as u64);
 }
 
 pub fn refused(why: Refusal) {
@@ -41,9 +55,10 @@ pub fn refused(why: Refusal) {
 // A byte in hexadecimal, after a space.
 fn byte(x: u8) {
     text(b" ");
-    io::print_hex(STDOUT_FILENO, x as u64, 2);
+    hex(x as u64, 2);
 }
 
+// Bytes, each after a space, and the line's end.
 pub fn bytes(all: &[u8]) {
     let mut i = 0;
     while i < all.len() {
@@ -51,8 +66,4 @@ pub fn bytes(all: &[u8]) {
         i += 1;
     }
     line_end();
-}
-
-pub fn line_end() {
-    text(b"\n");
 }
