@@ -1,2 +1,7 @@
 pub mod Decimal
+pub mod Cut
+pub mod Runs
+pub mod Clock
+pub mod Line
+pub mod Keys
 pub mod Room

@@ -1,0 +1,62 @@
+-- `due_text::word::past_word` meets its contract: no byte passed is blank. Assumes nothing.
+use Prim.Native.Nat.{_+_, _-_, _≤_}
+use mathlib.Core.Path.{_≡_, sym, _∙_}
+use mathlib.Core.Bool.{not}
+use borrow.Author.Needs.{needs}
+use lib.ListN.{length, drop}
+use Rattle.due_text.specs.Cut.{blank?}
+use Rattle.due_text.specs.Runs.{run, solid?}
+use Rattle.due_text.proofs.Cutting.{stopped, passed, ended}
+use Rattle.due_text.proofs.word.past_word.Statement.{statement}
+use Rattle.due_text.proofs.word.past_word.Tie as tie
+
+abbrev Inv-loop : tie.InvT-loop
+Inv-loop text at i₀ i = (i ≤ length text) × (i + run blank? (drop i text) ≡ at + run blank? (drop at text))
+
+abbrev μ-loop : tie.MeasureT-loop
+μ-loop text at i₀ i = length text - i
+
+loop-holds : tie.Need-loop-holds Inv-loop μ-loop
+loop-holds c = search needs
+
+shared-slice-read-is-blank : tie.Need-shared-slice-read-is-blank Inv-loop μ-loop
+shared-slice-read-is-blank c = search needs
+
+is-blank-requires : tie.Need-is-blank-requires Inv-loop μ-loop
+is-blank-requires c κs = search needs
+
+returns : tie.Need-returns Inv-loop μ-loop
+returns c =
+    let l = c .before .before .before .before in
+    stopped blank? (l .before .before .args .text .now) (l .loop .i) (l .loop .inv .1) (search needs) (sym (c .before .is-blank .ensures) ∙ c .if1 .taken)
+
+add-i : tie.Need-add-i Inv-loop μ-loop
+add-i c = search needs
+
+loop-less : tie.Need-loop-less Inv-loop μ-loop
+loop-less c = search needs
+
+loop-again : tie.Need-loop-again Inv-loop μ-loop
+loop-again c =
+    let l = c .before .before .before .before in
+    (search needs, passed blank? (l .before .before .args .text .now) (l .loop .i) (l .loop .inv .1) (search needs) (sym (c .before .is-blank .ensures) ∙ c .if1 .left))
+
+returns-2 : tie.Need-returns-2 Inv-loop μ-loop
+returns-2 c =
+    let l = c .before in
+    ended blank? (l .before .before .args .text .now) (l .loop .i) (l .loop .inv .1) (search needs)
+
+pub past-word-spec : {M : Type 1} → statement M
+past-word-spec =
+    tie.close
+    (tie.spec
+    Inv-loop
+    μ-loop
+    loop-holds
+    shared-slice-read-is-blank
+    is-blank-requires
+    returns
+    add-i
+    loop-less
+    loop-again
+    returns-2)
