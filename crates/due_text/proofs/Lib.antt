@@ -1,3 +1,4 @@
+pub mod Clocks
 pub mod Cutting
 pub mod Digits
 pub mod Minus

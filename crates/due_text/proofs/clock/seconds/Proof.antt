@@ -1,7 +1,13 @@
--- `due_text::clock::seconds` is safe: what is cast is below 2^63. Assumes nothing.
+-- `due_text::clock::seconds` meets its contract: each answer by the number that was read. Assumes nothing.
+use mathlib.Core.Path.{_≡_, sym, ap, _∙_}
+use mathlib.Core.Bool.{Bool}
 use native.Mathlib.Omega.{arith}
-use Rattle.due_text.proofs.Minus.{minus-fits}
 use borrow.Author.Needs.{needs}
+use mir.Syntax.{w64}
+use mir.Facts.{toZ-pos}
+use Rattle.due_text.specs.Clock.{clockAt, signed}
+use Rattle.due_text.proofs.Clocks.{too-late, in-time}
+use Rattle.due_text.proofs.Minus.{minus-fits, minus-is}
 use Rattle.due_text.proofs.clock.seconds.Statement.{statement}
 use Rattle.due_text.proofs.clock.seconds.Tie as tie
 
@@ -12,7 +18,9 @@ enum-known-number : tie.Need-enum-known-number
 enum-known-number c = search needs
 
 returns : tie.Need-returns
-returns c = search needs
+returns c =
+    let m : tie.After-number = c .before .before in
+    too-late (m .before .before .before .before .args .negative) (sym (m .number .given .1) ∙ m .before .before .read .ensures) (omega arith)
 
 cast-t7 : tie.Need-cast-t7
 cast-t7 c = search needs
@@ -21,7 +29,10 @@ sub-t8 : tie.Need-sub-t8
 sub-t8 c = minus-fits (c .before .before .before .number .given .0 .0) (omega arith)
 
 returns-2 : tie.Need-returns-2
-returns-2 c = search needs
+returns-2 c =
+    let m : tie.After-number = c .before .before .before in
+    let n = m .number .given .0 .0 in
+    in-time (m .before .before .before .before .args .negative) (sym (m .number .given .1) ∙ m .before .before .read .ensures) (omega arith) (minus-is n (omega arith) ∙ ap (λ (b : Bool). signed b n) (sym (c .if2 .taken)))
 
 cast-t9 : tie.Need-cast-t9
 cast-t9 c = search needs
@@ -33,13 +44,16 @@ enum-told-2 : tie.Need-enum-told-2
 enum-told-2 c = search needs
 
 returns-3 : tie.Need-returns-3
-returns-3 c = search needs
+returns-3 c =
+    let m : tie.After-number = c .before .before .before in
+    let n = m .number .given .0 .0 in
+    in-time (m .before .before .before .before .args .negative) (sym (m .number .given .1) ∙ m .before .before .read .ensures) (omega arith) (toZ-pos w64 (omega arith) ∙ ap (λ (b : Bool). signed b n) (sym (c .if2 .left)))
 
 returns-4 : tie.Need-returns-4
-returns-4 c = search needs
+returns-4 c = ap (clockAt _) (sym (c .enum-told .given .1) ∙ c .before .before .read .ensures)
 
 returns-5 : tie.Need-returns-5
-returns-5 c = search needs
+returns-5 c = ap (clockAt _) (sym (c .enum-told2 .given .1) ∙ c .before .before .read .ensures)
 
 pub seconds-spec : {M : Type 1} → statement M
 seconds-spec =
