@@ -3,3 +3,5 @@ pub mod Cutting
 pub mod Digits
 pub mod Minus
 pub mod NextWords
+pub mod Numbers
+pub mod Said

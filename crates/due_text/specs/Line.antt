@@ -35,20 +35,21 @@ upTo last above number.NotDigits next = Bad NotNumber
 upTo last above number.TooLarge next = Bad above
 
 -- the answer to a flush, as a line
-abbrev pub keyed : Answer ℕ → Line
-keyed (gives key) = Key key
-keyed (refuses n) = Bad (Refused (refusalOf n))
+abbrev pub keyedOf : Answer ℕ → Line
+keyedOf (gives key) = Key key
+keyedOf (refuses n) = Bad (Refused (refusalOf n))
 
 abbrev pub dueAtClock : (unit valve : ℕ) → Clock → Line
-dueAtClock unit valve (clock.At seconds) = keyed (flushKeyOf unit valve seconds)
+dueAtClock unit valve (clock.At seconds) = keyedOf (flushKeyOf unit valve seconds)
 dueAtClock unit valve clock.NotDigits = Bad NotNumber
 dueAtClock unit valve clock.TooLarge = Bad ClockBeyond
 
+unfoldable pub dueAtUnit : (unit : ℕ) (valve seconds : List ℕ) → Line
+dueAtUnit unit valve seconds = upTo 255 ValveAbove (numberOf valve) (λ v. dueAtClock unit v (clockOf seconds))
+
 -- three words: the first that is wrong decides, from the left
 unfoldable pub dueOf : (unit valve seconds : List ℕ) → Line
-dueOf unit valve seconds =
-    upTo 65535 UnitAbove (numberOf unit) (λ u.
-    upTo 255 ValveAbove (numberOf valve) (λ v. dueAtClock u v (clockOf seconds)))
+dueOf unit valve seconds = upTo 65535 UnitAbove (numberOf unit) (λ u. dueAtUnit u valve seconds)
 
 abbrev pub saidBy : (words : List (List ℕ)) → Line
 saidBy [] = Blank

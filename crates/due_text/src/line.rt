@@ -1,4 +1,9 @@
 // One line of the text.
+ghost use mathlib.Core.Path.{_≡_};
+ghost use Rattle.flush.specs.FlushKey.{paper};
+ghost use Rattle.due_text.specs.Clock.{clockOf};
+ghost use Rattle.due_text.specs.Cut.{wordsOf};
+ghost use Rattle.due_text.specs.Line.{lineOf, saidBy, plainOf, dueOf, dueAtUnit, dueAtClock, keyedOf};
 use crate::clock;
 use crate::clock::Clock;
 use crate::decimal;
@@ -29,13 +34,17 @@ pub enum Line {
 }
 
 // What a line says, up to its comment.
-pub fn read(text: &[u8]) -> Line {
+pub fn read(text: &[u8]) -> Line
+    ensures { λ r. ⌜ r ≡ lineOf (now (text .entry)) ⌝ }
+{
     let end = bytes::scan::find(text, 0, text.len(), b'#');
     said(&text[..end])
 }
 
 // What the words of a line say.
-fn said(text: &[u8]) -> Line {
+fn said(text: &[u8]) -> Line
+    ensures { λ r. ⌜ r ≡ saidBy (wordsOf (now (text .entry))) ⌝ }
+{
     let first = word::next(text, 0);
     let start1 = first.start;
     let end1 = first.end;
@@ -66,7 +75,9 @@ fn said(text: &[u8]) -> Line {
 }
 
 // A plain key.
-pub fn plain(key: &[u8]) -> Line {
+pub fn plain(key: &[u8]) -> Line
+    ensures { λ r. ⌜ r ≡ plainOf (now (key .entry)) ⌝ }
+{
     let number = decimal::read(key);
     match number {
         Number::Value(key) => Line::Key(key),
@@ -76,7 +87,9 @@ pub fn plain(key: &[u8]) -> Line {
 }
 
 // A flush: its unit first, then its valve, then its seconds.
-pub fn due(unit: &[u8], valve: &[u8], seconds: &[u8]) -> Line {
+pub fn due(unit: &[u8], valve: &[u8], seconds: &[u8]) -> Line
+    ensures { λ r. ⌜ r ≡ dueOf (now (unit .entry)) (now (valve .entry)) (now (seconds .entry)) ⌝ }
+{
     let number = decimal::read(unit);
     match number {
         Number::Value(unit) => {
@@ -90,7 +103,9 @@ pub fn due(unit: &[u8], valve: &[u8], seconds: &[u8]) -> Line {
     }
 }
 
-fn due_at_unit(unit: u16, valve: &[u8], seconds: &[u8]) -> Line {
+fn due_at_unit(unit: u16, valve: &[u8], seconds: &[u8]) -> Line
+    ensures { λ r. ⌜ r ≡ dueAtUnit unit (now (valve .entry)) (now (seconds .entry)) ⌝ }
+{
     let number = decimal::read(valve);
     match number {
         Number::Value(valve) => {
@@ -104,16 +119,23 @@ fn due_at_unit(unit: u16, valve: &[u8], seconds: &[u8]) -> Line {
     }
 }
 
-fn due_at_valve(unit: u16, valve: u8, seconds: &[u8]) -> Line {
+fn due_at_valve(unit: u16, valve: u8, seconds: &[u8]) -> Line
+    ensures { λ r. ⌜ r ≡ dueAtClock unit valve (clockOf (now (seconds .entry))) ⌝ }
+{
     let clock = clock::read(seconds);
     match clock {
-        Clock::At(seconds) => keyed(flush::flush_key(unit, valve, seconds)),
+        Clock::At(seconds) => {
+            let answer = flush::flush_key(unit, valve, seconds);
+            keyed(answer)
+        }
         Clock::NotDigits => Line::Bad(Fault::NotNumber),
         Clock::TooLarge => Line::Bad(Fault::ClockBeyond),
     }
 }
 
-fn keyed(answer: KeyAnswer) -> Line {
+fn keyed(answer: KeyAnswer) -> Line
+    ensures { λ r. ⌜ r ≡ keyedOf (paper answer) ⌝ }
+{
     match answer {
         KeyAnswer::Key(key) => Line::Key(key),
         KeyAnswer::Refused(why) => Line::Bad(Fault::Refused(why)),

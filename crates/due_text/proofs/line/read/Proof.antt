@@ -1,7 +1,13 @@
--- `due_text::line::read` is safe: a comment begins within the line. Assumes nothing.
-use mathlib.Core.Path.{sym}
-use lib.Seq.{length-take-le}
+-- `due_text::line::read` meets its contract: a comment begins at the first `#`. Assumes nothing.
 use borrow.Author.Needs.{needs}
+use mathlib.Core.Path.{_∙_, sym, ap}
+use mathlib.Core.List.{List}
+use Prim.Native.Nat.{ℕ}
+use lib.Seq.{length-take-le}
+use denote.Ref.{now}
+use Rattle.due_text.specs.Cut.{wordsOf}
+use Rattle.due_text.specs.Line.{saidBy, lineOf}
+use Rattle.due_text.proofs.Said.{up-to-comment}
 use Rattle.due_text.proofs.line.read.Statement.{statement}
 use Rattle.due_text.proofs.line.read.Tie as tie
 
@@ -15,7 +21,8 @@ said-requires : tie.Need-said-requires
 said-requires c κs = search needs
 
 returns : tie.Need-returns
-returns c = search needs
+unfolding lineOf
+returns c = c .said .ensures ∙ ap (λ (l : List ℕ). saidBy (wordsOf l)) (up-to-comment (now (c .before .before .before .before .args .text)) (c .before .before .find .ensures .0))
 
 pub read-spec : {M : Type 1} → statement M
 read-spec = tie.close (tie.spec find-requires slice-aggregate-said said-requires returns)

@@ -1,0 +1,71 @@
+-- `due_text::line::due_at_unit` meets its contract: each answer by the number that was read. Assumes nothing.
+use borrow.Author.Needs.{needs}
+use Prim.Native.Nat.{ℕ}
+use mathlib.Core.Path.{_∙_, sym, ap}
+use native.Mathlib.Omega.{arith}
+use denote.Ref.{now}
+use Rattle.due_text.specs.Clock.{clockOf}
+use Rattle.due_text.specs.declared.decimal.Number.{Number}
+use Rattle.due_text.specs.declared.line.Line.{Line}
+use Rattle.due_text.specs.declared.line.Fault.the-variants.{ValveAbove}
+use Rattle.due_text.specs.Line.{dueAtUnit, upTo, dueAtClock}
+use Rattle.due_text.proofs.Numbers.{above-last, up-to-last}
+use Rattle.due_text.proofs.line.due_at_unit.Statement.{statement}
+use Rattle.due_text.proofs.line.due_at_unit.Tie as tie
+
+read-requires : tie.Need-read-requires
+read-requires c κs = search needs
+
+enum-known-number : tie.Need-enum-known-number
+enum-known-number c = search needs
+
+-- what is said with a number that is not above the last
+next : (s : tie.Start) → ℕ → Line
+next s n = dueAtClock (s .args .unit) n (clockOf (now (s .args .seconds)))
+
+returns : tie.Need-returns
+unfolding dueAtUnit next
+returns c =
+    let m : tie.After-number = c .before .before in
+    above-last 255 ValveAbove (sym (m .number .given .1) ∙ m .before .before .read .ensures) (next (m .before .before .before .before .before)) (omega arith)
+
+cast-due-at-valve : tie.Need-cast-due-at-valve
+cast-due-at-valve c = search needs
+
+due-at-valve-requires : tie.Need-due-at-valve-requires
+due-at-valve-requires c κs = search needs
+
+enum-told : tie.Need-enum-told
+enum-told c = search needs
+
+enum-told-2 : tie.Need-enum-told-2
+enum-told-2 c = search needs
+
+returns-2 : tie.Need-returns-2
+unfolding dueAtUnit next
+returns-2 c =
+    let m : tie.After-number = c .before .before .before in
+    c .due-at-valve .ensures ∙ up-to-last 255 ValveAbove (sym (m .number .given .1) ∙ m .before .before .read .ensures) (next (m .before .before .before .before .before)) (omega arith)
+
+returns-3 : tie.Need-returns-3
+unfolding dueAtUnit next
+returns-3 c = ap (λ (n : Number). upTo 255 ValveAbove n (next (c .before .before .before .before .before))) (sym (c .enum-told .given .1) ∙ c .before .before .read .ensures)
+
+returns-4 : tie.Need-returns-4
+unfolding dueAtUnit next
+returns-4 c = ap (λ (n : Number). upTo 255 ValveAbove n (next (c .before .before .before .before .before))) (sym (c .enum-told2 .given .1) ∙ c .before .before .read .ensures)
+
+pub due-at-unit-spec : {M : Type 1} → statement M
+due-at-unit-spec =
+    tie.close
+    (tie.spec
+    read-requires
+    enum-known-number
+    returns
+    cast-due-at-valve
+    due-at-valve-requires
+    enum-told
+    enum-told-2
+    returns-2
+    returns-3
+    returns-4)
