@@ -15,13 +15,13 @@ use Rattle.due_text.specs.declared.line.Line.the-variants as line
 use Rattle.due_text.specs.declared.keys.KeysAnswer.{KeysAnswer}
 use Rattle.due_text.specs.declared.keys.KeysAnswer.the-variants.{Read, Bad}
 
--- an answer, and the numbers that go with it: the keys read, or what the room holds
+-- an answer, and what it leaves: the keys read so far, or the whole room
 pub record Told : Type 0 where
   pub answer : KeysAnswer
-  pub numbers : List ℕ
+  pub leaves : List ℕ
 
 abbrev pub told : KeysAnswer → List ℕ → Told
-told a l = record { answer = a; numbers = l }
+told a l = record { answer = a; leaves = l }
 
 unfoldable pub listed? : ℕ → List ℕ → Bool
 listed? key [] = false
@@ -42,7 +42,7 @@ readLines size number keys (line ∷ more) = afterLine size number keys (lineOf 
 
 -- the keys stand in the first places of the room, and its other places are as they were
 abbrev pub inRoom : (room : List ℕ) → Told → Told
-inRoom room t = told (t .answer) (t .numbers ++ drop (length (t .numbers)) room)
+inRoom room t = told (t .answer) (t .leaves ++ drop (length (t .leaves)) room)
 
 unfoldable pub keysOf : (text room : List ℕ) → Told
 keysOf text room = inRoom room (readLines (length room) 1 [] (linesOf text))

@@ -1,8 +1,8 @@
 // The keys of a whole text, line by line.
-ghost use Rattle.due_text.specs.Room.{WithinRoom};
 ghost use mathlib.Core.Path.{_≡_};
 ghost use Prim.Native.Nat.{_+_, _≤_, min};
 ghost use lib.ListN.{length};
+ghost use Rattle.due_text.specs.Keys.{told, keysOf, listed?};
 use crate::line;
 use crate::line::Fault;
 use crate::line::Line;
@@ -17,7 +17,7 @@ pub enum KeysAnswer {
 
 // The keys of the text, in its order, into the first places of the room.
 pub fn read(text: &[u8], room: &mut [u64]) -> KeysAnswer
-    ensures { λ r. ⌜ WithinRoom r (length (now (room .exit))) ⌝ }
+    ensures { λ r. ⌜ told r (now (room .exit)) ≡ keysOf (now (text .entry)) (now (room .entry)) ⌝ }
 {
     let mut at = 0;
     let mut number = 0;
@@ -46,7 +46,9 @@ pub fn read(text: &[u8], room: &mut [u64]) -> KeysAnswer
 }
 
 // Whether a key is listed already. A build would refuse it too, but could not say on which line it is.
-fn listed(keys: &[u64], key: u64) -> bool {
+fn listed(keys: &[u64], key: u64) -> bool
+    ensures { λ r. ⌜ r ≡ listed? key (now (keys .entry)) ⌝ }
+{
     let mut i = 0;
     while i < keys.len() {
         if keys[i] == key {

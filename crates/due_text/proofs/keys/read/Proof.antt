@@ -1,32 +1,40 @@
--- `due_text::keys::read` meets its contract: each key read has a place in the room. Assumes nothing.
-use Prim.Native.Nat.{_-_, _≤_}
-use mathlib.Core.Path.{_≡_, sym}
+-- `due_text::keys::read` meets its contract: each line does to the keys so far what `afterLine` says. Assumes nothing.
+use Prim.Native.Nat.{_+_, _-_, min}
+use mathlib.Core.Path.{_≡_, sym, _∙_}
+use mathlib.Core.Logic.{⊎-elim}
 use borrow.Author.Needs.{needs}
 use native.Mathlib.Omega.{arith}
-use mathlib.Core.Logic.{⊎-elim}
+use denote.Ref.{now}
 use lib.ListN.{length, length-set}
 use lib.Seq.{length-take-le}
+use Rattle.due_text.proofs.SoFar.{SoFar, begins, no-line-left, bad-line, after-blank, no-place, repeated, after-key}
 use Rattle.due_text.proofs.keys.read.Statement.{statement}
 use Rattle.due_text.proofs.keys.read.Tie as tie
 
 abbrev Inv-loop : tie.InvT-loop
-Inv-loop text room₀ at₀ number₀ count₀ room at number count =
-    (number ≤ at) × (at ≤ length text) × (count ≤ length room) × (length room ≡ length room₀)
+Inv-loop text room₀ at₀ number₀ count₀ room at number count = SoFar text room₀ room at number count
 
 abbrev μ-loop : tie.MeasureT-loop
 μ-loop text room₀ at₀ number₀ count₀ room at number count = length text - at
 
--- where a line's ways meet, each key read still has its place
+-- where a line's ways meet, its key is behind the others
 at-match : (c : tie.At-match-came Inv-loop μ-loop)
-    → (c .match .count ≤ length (c .match .room)) × (length (c .match .room) ≡ length (c .before .before .before .before .before .before .before .before .args .room .now))
+    → let find = c .before .before .before in
+    let loop = find .before .before in
+    let args = loop .before .before .before .args in
+    SoFar (now (args .text)) (now (args .room)) (c .match .room) (min (find .find .result + 1) (length (now (args .text)))) (loop .loop .number + 1) (c .match .count)
 at-match c =
-    let h = c .before .before .before .before .before in
-    ⊎-elim (λ w. rw (w .2, w .3) (h .loop .inv .2, h .loop .inv .3))
-    (λ w. rw (w .6, w .7) (simp length-set (omega arith), simp length-set (h .loop .inv .3)))
+    let r : tie.After-read Inv-loop μ-loop = c .before in
+    let l = r .before .before .before in
+    let found = r .before .before .find .ensures .0 in
+    ⊎-elim (λ w. rw (w .2, w .3) (after-blank (l .before .loop .inv) (l .loop-test .taken) found (sym (w .1 .given .1) ∙ r .read .ensures)))
+    (λ w.
+    rw (w .7, w .8)
+    (after-key (l .before .loop .inv) (l .loop-test .taken) found (sym (w .1 .given .1) ∙ r .read .ensures) (w .3 .left) (sym (w .5 .ensures) ∙ w .6 .left)))
     (c .match .came)
 
 loop-holds : tie.Need-loop-holds Inv-loop μ-loop
-loop-holds c = search needs
+loop-holds c = begins _ _
 
 find-requires : tie.Need-find-requires Inv-loop μ-loop
 find-requires c κs = search needs
@@ -56,7 +64,10 @@ same-length : tie.Need-same-length Inv-loop μ-loop
 same-length c = search needs
 
 returns : tie.Need-returns Inv-loop μ-loop
-returns c = search needs
+returns c =
+    let r : tie.After-read Inv-loop μ-loop = c .before .before .before .before in
+    let l = r .before .before .before in
+    no-place (l .before .loop .inv) (l .loop-test .taken) (r .before .before .find .ensures .0) (sym (c .before .before .said .given .1) ∙ r .read .ensures) (c .if1 .taken)
 
 slice-reshare-prefix-listed : tie.Need-slice-reshare-prefix-listed Inv-loop μ-loop
 slice-reshare-prefix-listed c = search needs
@@ -71,7 +82,11 @@ same-length-2 : tie.Need-same-length-2 Inv-loop μ-loop
 same-length-2 c = search needs
 
 returns-2 : tie.Need-returns-2 Inv-loop μ-loop
-returns-2 c = search needs
+returns-2 c =
+    let r : tie.After-read Inv-loop μ-loop = c .before .before .before .before .before .before .before in
+    let l = r .before .before .before in
+    repeated (l .before .loop .inv) (l .loop-test .taken) (r .before .before .find .ensures .0) (sym (c .before .before .before .before .before .said .given .1) ∙ r .read .ensures)
+    (c .before .before .before .if1 .left) (sym (c .before .listed .ensures) ∙ c .if2 .taken)
 
 mul-room : tie.Need-mul-room Inv-loop μ-loop
 mul-room c = search needs
@@ -89,7 +104,10 @@ same-length-3 : tie.Need-same-length-3 Inv-loop μ-loop
 same-length-3 c = search needs
 
 returns-3 : tie.Need-returns-3 Inv-loop μ-loop
-returns-3 c = search needs
+returns-3 c =
+    let r : tie.After-read Inv-loop μ-loop = c .before .before .before in
+    let l = r .before .before .before in
+    bad-line (l .before .loop .inv) (l .loop-test .taken) (r .before .before .find .ensures .0) (sym (c .before .said2 .given .1) ∙ r .read .ensures)
 
 past-requires : tie.Need-past-requires Inv-loop μ-loop
 past-requires c κs = search needs
@@ -98,13 +116,13 @@ loop-less : tie.Need-loop-less Inv-loop μ-loop
 loop-less c = search needs
 
 loop-again : tie.Need-loop-again Inv-loop μ-loop
-loop-again c = (omega arith, search needs, at-match (c .before) .0, at-match (c .before) .1)
+loop-again c = rw (c .past .ensures) (at-match (c .before))
 
 same-length-4 : tie.Need-same-length-4 Inv-loop μ-loop
 same-length-4 c = search needs
 
 returns-4 : tie.Need-returns-4 Inv-loop μ-loop
-returns-4 c = search needs
+returns-4 c = no-line-left (c .before .loop .inv) (c .loop-test .left)
 
 pub read-spec : {M : Type 1} → statement M
 read-spec =
