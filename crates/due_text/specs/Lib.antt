@@ -5,3 +5,4 @@ pub mod Clock
 pub mod Line
 pub mod Keys
 pub mod Room
+pub mod OneAnswer
