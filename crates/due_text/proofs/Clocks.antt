@@ -1,6 +1,6 @@
 -- What the clock answers, by the number that was read and its sign, and by the word's first byte. Assumes nothing.
 use Prim.Native.Nat.{ℕ, suc, _-_, _^_, _≤_, _<_}
-use mathlib.Core.Path.{_≡_, refl, ap, _∙_}
+use mathlib.Core.Path.{_≡_, refl, ap}
 use mathlib.Core.Bool.{Bool, true, false}
 use mathlib.Core.List.{List, [], _∷_}
 use native.Mathlib.Omega.{arith}

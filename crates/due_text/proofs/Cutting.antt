@@ -1,17 +1,14 @@
--- Texts cut at the first byte that ends a piece: the first piece, the next word, the comment. Assumes nothing.
-use Prim.Native.Nat.{ℕ, zero, suc, _+_, _≤_, _<_, suc-le-suc, zero-le}
-use mathlib.Core.Path.{_≡_, refl, sym, ap, _∙_}
-use mathlib.Core.Bool.{Bool, true, false, not, cond}
+-- Texts cut at bytes that end a piece: how far a run goes from a place on, and the first piece. Assumes nothing.
+use Prim.Native.Nat.{ℕ, suc, _+_, _≤_, _<_}
+use mathlib.Core.Path.{_≡_, refl, ap}
+use mathlib.Core.Bool.{Bool, true, false, cond}
 use mathlib.Core.List.{List, [], _∷_}
 use native.Mathlib.Numerals.{add-one}
 use native.Mathlib.Omega.{arith}
 use lib.ListN.{length, getD, take, drop, drop-of-length-le}
 use lib.Seq.{drop-cons}
-use lib.Dec.{eqb}
-use borrow.Author.Tests.{not-false, ne-eqb}
-use Rattle.bytes.specs.Bytes.{indexOf, indexAfter}
-use Rattle.due_text.specs.Cut.{cut, inFront, blank?, withoutEmpty, wordsOf, beforeComment}
-use Rattle.due_text.specs.Runs.{run, solid?}
+use Rattle.due_text.specs.Cut.{cut, inFront}
+use Rattle.due_text.specs.Runs.{run}
 
 module _ (stops : ℕ → Bool) where
   pub run-within : (text : List ℕ) → run stops text ≤ length text

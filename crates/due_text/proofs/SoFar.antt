@@ -1,6 +1,6 @@
 -- The lines read so far, their keys in the first places of the room, and those to come. Assumes nothing.
 use Prim.Native.Nat.{ℕ, suc, _+_, _-_, _≤_, _<_, min}
-use mathlib.Core.Path.{_≡_, refl, sym, ap, ap₂, _∙_}
+use mathlib.Core.Path.{_≡_, refl, sym, ap, _∙_}
 use mathlib.Core.Bool.{true, false}
 use mathlib.Core.List.{List, [], _∷_, _++_}
 use native.Mathlib.Decide.{decLe}
@@ -14,7 +14,7 @@ use Rattle.bytes.specs.Bytes.{indexOf, slice}
 use Rattle.due_text.specs.Cut.{cut, newline?, linesOf}
 use Rattle.due_text.specs.Runs.{run}
 use Rattle.due_text.specs.Line.{lineOf}
-use Rattle.due_text.specs.Keys.{Told, told, listed?, afterLine, readLines, inRoom, keysOf}
+use Rattle.due_text.specs.Keys.{KeysOutcome, keysOutcome, listed?, afterLine, readLines, inRoom, keysOf}
 use Rattle.due_text.specs.declared.line.Fault.{Fault}
 use Rattle.due_text.specs.declared.line.Fault.the-variants.{Refused, TooManyKeys}
 use Rattle.due_text.specs.declared.line.Line.{Line}
@@ -47,7 +47,7 @@ next-line text at end h e =
 
 module _ (text room₀ : List ℕ) where
   -- the whole text, read from the front
-  abbrev whole : Told
+  abbrev whole : KeysOutcome
   whole = readLines (length room₀) 1 [] (linesOf text)
 
   -- after `number` lines, up to the place `at`, with `count` keys
@@ -64,13 +64,13 @@ begins text room = record { few = omega arith; within = omega arith; places = om
 
 module _ {text room₀ room : List ℕ} {at number count : ℕ} (s : SoFar text room₀ room at number count) where
   -- what is answered now is answered of the whole text
-  stops : {a : KeysAnswer} → told a (take count room) ≡ whole text room₀ → told a room ≡ keysOf text room₀
+  stops : {a : KeysAnswer} → keysOutcome a (take count room) ≡ whole text room₀ → keysOutcome a room ≡ keysOf text room₀
   unfolding keysOf
   stops {a} e =
       let kept : take count room ++ drop count room₀ ≡ room = rw (← s .untouched) (take-append-drop count room) in
-      ap (told a) (sym kept) ∙ rw (length-take-le count room (s .places)) at (ap (inRoom room₀) e)
+      ap (keysOutcome a) (sym kept) ∙ rw (length-take-le count room (s .places)) at (ap (inRoom room₀) e)
 
-  pub no-line-left : length text ≤ at → told (Read count) room ≡ keysOf text room₀
+  pub no-line-left : length text ≤ at → keysOutcome (Read count) room ≡ keysOf text room₀
   unfolding readLines cut
   no-line-left h = stops (rw (drop-of-length-le text {i = at} h, length-take-le count room (s .places)) at (s .to-come))
 
@@ -88,7 +88,7 @@ module _ {text room₀ room : List ℕ} {at number count : ℕ} (s : SoFar text 
     unfolding readLines
     turn r = rw (next-line text at end h e, ← r) at (s .to-come)
 
-    pub bad-line : {why : Fault} → line.Bad why ≡ lineOf this → told (Bad (number + 1) why) room ≡ keysOf text room₀
+    pub bad-line : {why : Fault} → line.Bad why ≡ lineOf this → keysOutcome (Bad (number + 1) why) room ≡ keysOf text room₀
     bad-line r = stops (turn r)
 
     pub after-blank : line.Blank ≡ lineOf this → SoFar text room₀ room next (number + 1) count
@@ -103,14 +103,14 @@ module _ {text room₀ room : List ℕ} {at number count : ℕ} (s : SoFar text 
         }
 
     module _ {key : ℕ} (r : line.Key key ≡ lineOf this) where
-      pub no-place : count ≡ length room → told (Bad (number + 1) TooManyKeys) room ≡ keysOf text room₀
+      pub no-place : count ≡ length room → keysOutcome (Bad (number + 1) TooManyKeys) room ≡ keysOf text room₀
       no-place f = stops (rw (length-take-le count room (s .places), eq-eqb count (length room₀) (f ∙ s .same-room)) at (turn r))
 
       module _ (f : count ≡ length room → ⊥) where
         free : count < length room
         free = omega (arith, s .places)
 
-        pub repeated : listed? key (take count room) ≡ true → told (Bad (number + 1) (Refused RepeatedKeys)) room ≡ keysOf text room₀
+        pub repeated : listed? key (take count room) ≡ true → keysOutcome (Bad (number + 1) (Refused RepeatedKeys)) room ≡ keysOf text room₀
         repeated l = stops (rw (length-take-le count room (s .places), ne-eqb count (length room₀) (λ z. f (z ∙ sym (s .same-room))), l) at (turn r))
 
         pub after-key : listed? key (take count room) ≡ false → SoFar text room₀ (set room count key) next (number + 1) (count + 1)

@@ -1,7 +1,8 @@
 -- How a text of due flushes is cut into lines, and a line into words. The text is this project's own format; document 01 has none.
--- Bytes are numbers: tab 9, newline 10, carriage return 13, space 32, `#` 35. Assumes nothing.
+-- Bytes are numbers: tab 9, newline 10, carriage return 13, space 32, `#` 35. `cond test a b` is a where the test is true, else b.
+-- Assumes nothing.
 use Prim.Native.Nat.{ℕ}
-use mathlib.Core.Bool.{Bool, true, cond}
+use mathlib.Core.Bool.{Bool, cond, _||_}
 use mathlib.Core.List.{List, [], _∷_}
 use lib.Dec.{eqb}
 
@@ -27,7 +28,7 @@ beforeComment [] = []
 beforeComment (byte ∷ rest) = cond (eqb byte 35) [] (byte ∷ beforeComment rest)
 
 abbrev pub blank? : ℕ → Bool
-blank? byte = cond (eqb byte 32) true (cond (eqb byte 9) true (cond (eqb byte 13) true (eqb byte 10)))
+blank? byte = eqb byte 32 || eqb byte 9 || eqb byte 13 || eqb byte 10
 
 -- the pieces that are not empty
 abbrev pub withoutEmpty : List (List ℕ) → List (List ℕ)

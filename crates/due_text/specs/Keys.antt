@@ -1,14 +1,13 @@
 -- The keys of a text of due flushes, line by line: each goes behind those before it, and the first line that is bad ends the
 -- reading. This project's own format; document 01 has none. Assumes nothing.
 use Prim.Native.Nat.{ℕ, _+_}
-use mathlib.Core.Bool.{Bool, true, false, cond}
+use mathlib.Core.Bool.{Bool, false, cond, _||_}
 use mathlib.Core.List.{List, [], _∷_, _++_}
 use lib.ListN.{length, drop}
 use lib.Dec.{eqb}
 use Rattle.answers.specs.declared.Refusal.the-variants.{RepeatedKeys}
 use Rattle.due_text.specs.Cut.{linesOf}
 use Rattle.due_text.specs.Line.{lineOf}
-use Rattle.due_text.specs.declared.line.Fault.{Fault}
 use Rattle.due_text.specs.declared.line.Fault.the-variants.{Refused, TooManyKeys}
 use Rattle.due_text.specs.declared.line.Line.{Line}
 use Rattle.due_text.specs.declared.line.Line.the-variants as line
@@ -16,33 +15,33 @@ use Rattle.due_text.specs.declared.keys.KeysAnswer.{KeysAnswer}
 use Rattle.due_text.specs.declared.keys.KeysAnswer.the-variants.{Read, Bad}
 
 -- an answer, and what it leaves: the keys read so far, or the whole room
-pub record Told : Type 0 where
+pub record KeysOutcome : Type 0 where
   pub answer : KeysAnswer
   pub leaves : List ℕ
 
-abbrev pub told : KeysAnswer → List ℕ → Told
-told a l = record { answer = a; leaves = l }
+abbrev pub keysOutcome : KeysAnswer → List ℕ → KeysOutcome
+keysOutcome a l = record { answer = a; leaves = l }
 
 unfoldable pub listed? : ℕ → List ℕ → Bool
 listed? key [] = false
-listed? key (other ∷ keys) = cond (eqb other key) true (listed? key keys)
+listed? key (other ∷ keys) = eqb other key || listed? key keys
 
--- one line, with this number, after these keys: `next` goes on with the keys there are then
-abbrev pub afterLine : (size number : ℕ) (keys : List ℕ) → Line → (next : List ℕ → Told) → Told
+-- one line, with this number, after these keys: `next` goes on, unless the line is bad, the room full or the key listed already
+abbrev pub afterLine : (size number : ℕ) (keys : List ℕ) → Line → (next : List ℕ → KeysOutcome) → KeysOutcome
 afterLine size number keys line.Blank next = next keys
-afterLine size number keys (line.Bad why) next = told (Bad number why) keys
+afterLine size number keys (line.Bad why) next = keysOutcome (Bad number why) keys
 afterLine size number keys (line.Key key) next =
-    cond (eqb (length keys) size) (told (Bad number TooManyKeys) keys)
-    (cond (listed? key keys) (told (Bad number (Refused RepeatedKeys)) keys) (next (keys ++ key ∷ [])))
+    cond (eqb (length keys) size) (keysOutcome (Bad number TooManyKeys) keys)
+    (cond (listed? key keys) (keysOutcome (Bad number (Refused RepeatedKeys)) keys) (next (keys ++ key ∷ [])))
 
 -- the lines to come, the first of which has this number, after these keys; there is room for `size` keys in all
-unfoldable pub readLines : (size number : ℕ) (keys : List ℕ) (lines : List (List ℕ)) → Told
-readLines size number keys [] = told (Read (length keys)) keys
+unfoldable pub readLines : (size number : ℕ) (keys : List ℕ) (lines : List (List ℕ)) → KeysOutcome
+readLines size number keys [] = keysOutcome (Read (length keys)) keys
 readLines size number keys (line ∷ more) = afterLine size number keys (lineOf line) (λ after. readLines size (number + 1) after more)
 
 -- the keys stand in the first places of the room, and its other places are as they were
-abbrev pub inRoom : (room : List ℕ) → Told → Told
-inRoom room t = told (t .answer) (t .leaves ++ drop (length (t .leaves)) room)
+abbrev pub inRoom : (room : List ℕ) → KeysOutcome → KeysOutcome
+inRoom room read = keysOutcome (read .answer) (read .leaves ++ drop (length (read .leaves)) room)
 
-unfoldable pub keysOf : (text room : List ℕ) → Told
+unfoldable pub keysOf : (text room : List ℕ) → KeysOutcome
 keysOf text room = inRoom room (readLines (length room) 1 [] (linesOf text))

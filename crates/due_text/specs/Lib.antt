@@ -6,3 +6,4 @@ pub mod Line
 pub mod Keys
 pub mod Room
 pub mod OneAnswer
+pub mod Examples

@@ -4,7 +4,7 @@ use mathlib.Core.List.{List}
 use Prim.Native.Nat.{ℕ}
 use Rattle.due_text.specs.Decimal.{numberOf}
 use Rattle.due_text.specs.Line.{plainOf, dueOf, lineOf}
-use Rattle.due_text.specs.Keys.{Told, told, keysOf}
+use Rattle.due_text.specs.Keys.{KeysOutcome, keysOutcome, keysOf}
 use Rattle.due_text.specs.declared.decimal.Number.{Number}
 use Rattle.due_text.specs.declared.line.Line.{Line}
 use Rattle.due_text.specs.declared.keys.KeysAnswer.{KeysAnswer}
@@ -22,5 +22,5 @@ pub one-line : (text : List ℕ) (r s : Line) → r ≡ lineOf text → s ≡ li
 one-line text r s p q = p ∙ sym q
 
 pub one-keys : (text room : List ℕ) (r s : KeysAnswer) (after other : List ℕ)
-    → told r after ≡ keysOf text room → told s other ≡ keysOf text room → (r ≡ s) × (after ≡ other)
-one-keys text room r s after other p q = (ap (λ (t : Told). t .answer) (p ∙ sym q), ap (λ (t : Told). t .leaves) (p ∙ sym q))
+    → keysOutcome r after ≡ keysOf text room → keysOutcome s other ≡ keysOf text room → (r ≡ s) × (after ≡ other)
+one-keys text room r s after other p q = (ap (λ (t : KeysOutcome). t .answer) (p ∙ sym q), ap (λ (t : KeysOutcome). t .leaves) (p ∙ sym q))

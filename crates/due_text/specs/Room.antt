@@ -9,7 +9,7 @@ use lib.Dec.{eqb}
 use Rattle.answers.specs.declared.Refusal.the-variants.{RepeatedKeys}
 use Rattle.due_text.specs.Cut.{linesOf}
 use Rattle.due_text.specs.Line.{lineOf}
-use Rattle.due_text.specs.Keys.{Told, told, listed?, afterLine, readLines, keysOf}
+use Rattle.due_text.specs.Keys.{KeysOutcome, keysOutcome, listed?, afterLine, readLines, keysOf}
 use Rattle.due_text.specs.declared.line.Fault.the-variants.{Refused, TooManyKeys}
 use Rattle.due_text.specs.declared.line.Line.{Line}
 use Rattle.due_text.specs.declared.line.Line.the-variants as line
@@ -25,7 +25,7 @@ abbrev Counts : KeysAnswer → (keys : List ℕ) → Type 0
 Counts (Read count) keys = count ≡ length keys
 Counts (Bad number why) keys = Unit
 
-after-line : (size number : ℕ) (keys : List ℕ) (l : Line) (next : List ℕ → Told) → ((after : List ℕ) → Counts (next after .answer) (next after .leaves))
+after-line : (size number : ℕ) (keys : List ℕ) (l : Line) (next : List ℕ → KeysOutcome) → ((after : List ℕ) → Counts (next after .answer) (next after .leaves))
     → let t = afterLine size number keys l next in
     Counts (t .answer) (t .leaves)
 after-line size number keys line.Blank next go = go keys
@@ -33,7 +33,7 @@ after-line size number keys (line.Bad why) next go = tt
 after-line size number keys (line.Key key) next go = by (eqb (length keys) size) (listed? key keys)
   where
     by : (full again : Bool)
-        → let t = cond full (told (Bad number TooManyKeys) keys) (cond again (told (Bad number (Refused RepeatedKeys)) keys) (next (keys ++ key ∷ []))) in
+        → let t = cond full (keysOutcome (Bad number TooManyKeys) keys) (cond again (keysOutcome (Bad number (Refused RepeatedKeys)) keys) (next (keys ++ key ∷ []))) in
         Counts (t .answer) (t .leaves)
     by true again = tt
     by false true = tt
@@ -51,10 +51,10 @@ in-front : (r : KeysAnswer) (keys rest : List ℕ) → Counts r keys → WithinR
 in-front (Read count) keys rest e = omega (arith, length-append keys rest)
 in-front (Bad number why) keys rest e = tt
 
-pub within-room : (text room : List ℕ) {r : KeysAnswer} {after : List ℕ} → told r after ≡ keysOf text room → WithinRoom r (length after)
+pub within-room : (text room : List ℕ) {r : KeysAnswer} {after : List ℕ} → keysOutcome r after ≡ keysOf text room → WithinRoom r (length after)
 unfolding keysOf
 within-room text room {r} {after} e =
     let t = readLines (length room) 1 [] (linesOf text) in
-    let answered : r ≡ t .answer = ap (λ (o : Told). o .answer) e in
-    let left : after ≡ t .leaves ++ drop (length (t .leaves)) room = ap (λ (o : Told). o .leaves) e in
+    let answered : r ≡ t .answer = ap (λ (o : KeysOutcome). o .answer) e in
+    let left : after ≡ t .leaves ++ drop (length (t .leaves)) room = ap (λ (o : KeysOutcome). o .leaves) e in
     rw (answered, left) (in-front (t .answer) (t .leaves) (drop (length (t .leaves)) room) (all-lines (length room) 1 [] (linesOf text)))

@@ -2,7 +2,7 @@
 ghost use mathlib.Core.Path.{_≡_};
 ghost use Prim.Native.Nat.{_+_, _≤_, min};
 ghost use lib.ListN.{length};
-ghost use Rattle.due_text.specs.Keys.{told, keysOf, listed?};
+ghost use Rattle.due_text.specs.Keys.{keysOutcome, keysOf, listed?};
 use crate::line;
 use crate::line::Fault;
 use crate::line::Line;
@@ -17,7 +17,7 @@ pub enum KeysAnswer {
 
 // The keys of the text, in its order, into the first places of the room.
 pub fn read(text: &[u8], room: &mut [u64]) -> KeysAnswer
-    ensures { λ r. ⌜ told r (now (room .exit)) ≡ keysOf (now (text .entry)) (now (room .entry)) ⌝ }
+    ensures { λ r. ⌜ keysOutcome r (now (room .exit)) ≡ keysOf (now (text .entry)) (now (room .entry)) ⌝ }
 {
     let mut at = 0;
     let mut number = 0;

@@ -5,6 +5,9 @@ use native.Mathlib.Omega.{arith}
 use borrow.Author.Needs.{needs}
 use mir.Syntax.{w64}
 use mir.Facts.{toZ-pos}
+use denote.Ref.{now}
+use Rattle.due_text.specs.Decimal.{numberOf}
+use Rattle.due_text.specs.declared.decimal.Number.the-variants.{Value}
 use Rattle.due_text.specs.Clock.{clockAt, signed}
 use Rattle.due_text.proofs.Clocks.{too-late, in-time}
 use Rattle.due_text.proofs.Minus.{minus-fits, minus-is}
@@ -17,10 +20,14 @@ read-requires c κs = search needs
 enum-known-number : tie.Need-enum-known-number
 enum-known-number c = search needs
 
+-- the value that is cast is the number of the digits
+read-as : (m : tie.After-number) → Value (m .number .given .0 .0) ≡ numberOf (now (m .before .before .before .before .args .digits))
+read-as m = sym (m .number .given .1) ∙ m .before .before .read .ensures
+
 returns : tie.Need-returns
 returns c =
     let m : tie.After-number = c .before .before in
-    too-late (m .before .before .before .before .args .negative) (sym (m .number .given .1) ∙ m .before .before .read .ensures) (omega arith)
+    too-late (m .before .before .before .before .args .negative) (read-as m) (omega arith)
 
 cast-t7 : tie.Need-cast-t7
 cast-t7 c = search needs
@@ -32,7 +39,7 @@ returns-2 : tie.Need-returns-2
 returns-2 c =
     let m : tie.After-number = c .before .before .before in
     let n = m .number .given .0 .0 in
-    in-time (m .before .before .before .before .args .negative) (sym (m .number .given .1) ∙ m .before .before .read .ensures) (omega arith) (minus-is n (omega arith) ∙ ap (λ (b : Bool). signed b n) (sym (c .if2 .taken)))
+    in-time (m .before .before .before .before .args .negative) (read-as m) (omega arith) (minus-is n (omega arith) ∙ ap (λ (b : Bool). signed b n) (sym (c .if2 .taken)))
 
 cast-t9 : tie.Need-cast-t9
 cast-t9 c = search needs
@@ -47,7 +54,7 @@ returns-3 : tie.Need-returns-3
 returns-3 c =
     let m : tie.After-number = c .before .before .before in
     let n = m .number .given .0 .0 in
-    in-time (m .before .before .before .before .args .negative) (sym (m .number .given .1) ∙ m .before .before .read .ensures) (omega arith) (toZ-pos w64 (omega arith) ∙ ap (λ (b : Bool). signed b n) (sym (c .if2 .left)))
+    in-time (m .before .before .before .before .args .negative) (read-as m) (omega arith) (toZ-pos w64 (omega arith) ∙ ap (λ (b : Bool). signed b n) (sym (c .if2 .left)))
 
 returns-4 : tie.Need-returns-4
 returns-4 c = ap (clockAt _) (sym (c .enum-told .given .1) ∙ c .before .before .read .ensures)

@@ -1,11 +1,10 @@
 -- `due_text::keys::read` meets its contract: each line does to the keys so far what `afterLine` says. Assumes nothing.
 use Prim.Native.Nat.{_+_, _-_, min}
-use mathlib.Core.Path.{_≡_, sym, _∙_}
+use mathlib.Core.Path.{sym, _∙_}
 use mathlib.Core.Logic.{⊎-elim}
 use borrow.Author.Needs.{needs}
-use native.Mathlib.Omega.{arith}
 use denote.Ref.{now}
-use lib.ListN.{length, length-set}
+use lib.ListN.{length}
 use lib.Seq.{length-take-le}
 use Rattle.due_text.proofs.SoFar.{SoFar, begins, no-line-left, bad-line, after-blank, no-place, repeated, after-key}
 use Rattle.due_text.proofs.keys.read.Statement.{statement}

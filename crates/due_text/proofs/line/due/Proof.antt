@@ -1,11 +1,12 @@
 -- `due_text::line::due` meets its contract: each answer by the number that was read. Assumes nothing.
 use borrow.Author.Needs.{needs}
 use Prim.Native.Nat.{ℕ}
-use mathlib.Core.Path.{_∙_, sym, ap}
+use mathlib.Core.Path.{_≡_, _∙_, sym, ap}
 use native.Mathlib.Omega.{arith}
 use denote.Ref.{now}
-use Rattle.due_text.specs.Clock.{clockOf}
+use Rattle.due_text.specs.Decimal.{numberOf}
 use Rattle.due_text.specs.declared.decimal.Number.{Number}
+use Rattle.due_text.specs.declared.decimal.Number.the-variants.{Value}
 use Rattle.due_text.specs.declared.line.Line.{Line}
 use Rattle.due_text.specs.declared.line.Fault.the-variants.{UnitAbove}
 use Rattle.due_text.specs.Line.{dueOf, upTo, dueAtUnit}
@@ -23,11 +24,14 @@ enum-known-number c = search needs
 next : (s : tie.Start) → ℕ → Line
 next s n = dueAtUnit n (now (s .args .valve)) (now (s .args .seconds))
 
+read-as : (m : tie.After-number) → Value (m .number .given .0 .0) ≡ numberOf (now (m .before .before .before .before .before .before .args .unit))
+read-as m = sym (m .number .given .1) ∙ m .before .before .read .ensures
+
 returns : tie.Need-returns
 unfolding dueOf next
 returns c =
     let m : tie.After-number = c .before .before in
-    above-last 65535 UnitAbove (sym (m .number .given .1) ∙ m .before .before .read .ensures) (next (m .before .before .before .before .before .before)) (omega arith)
+    above-last 65535 UnitAbove (read-as m) (next (m .before .before .before .before .before .before)) (omega arith)
 
 cast-due-at-unit : tie.Need-cast-due-at-unit
 cast-due-at-unit c = search needs
@@ -45,7 +49,7 @@ returns-2 : tie.Need-returns-2
 unfolding dueOf next
 returns-2 c =
     let m : tie.After-number = c .before .before .before in
-    c .due-at-unit .ensures ∙ up-to-last 65535 UnitAbove (sym (m .number .given .1) ∙ m .before .before .read .ensures) (next (m .before .before .before .before .before .before)) (omega arith)
+    c .due-at-unit .ensures ∙ up-to-last 65535 UnitAbove (read-as m) (next (m .before .before .before .before .before .before)) (omega arith)
 
 returns-3 : tie.Need-returns-3
 unfolding dueOf next

@@ -4,7 +4,6 @@ use mathlib.Core.Path.{_≡_, sym, ap, _∙_}
 use mathlib.Core.Bool.{not}
 use borrow.Author.Needs.{needs}
 use lib.ListN.{length, drop}
-use Rattle.due_text.specs.Cut.{blank?}
 use Rattle.due_text.specs.Runs.{run, solid?}
 use Rattle.due_text.proofs.Cutting.{stopped, passed, ended}
 use Rattle.due_text.proofs.word.past_blanks.Statement.{statement}

@@ -1,11 +1,10 @@
 -- `due_text::word::past_word` meets its contract: no byte passed is blank. Assumes nothing.
 use Prim.Native.Nat.{_+_, _-_, _≤_}
 use mathlib.Core.Path.{_≡_, sym, _∙_}
-use mathlib.Core.Bool.{not}
 use borrow.Author.Needs.{needs}
 use lib.ListN.{length, drop}
 use Rattle.due_text.specs.Cut.{blank?}
-use Rattle.due_text.specs.Runs.{run, solid?}
+use Rattle.due_text.specs.Runs.{run}
 use Rattle.due_text.proofs.Cutting.{stopped, passed, ended}
 use Rattle.due_text.proofs.word.past_word.Statement.{statement}
 use Rattle.due_text.proofs.word.past_word.Tie as tie
