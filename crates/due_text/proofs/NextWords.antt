@@ -12,8 +12,21 @@ use Rattle.due_text.specs.Cut.{cut, blank?, withoutEmpty, wordsOf}
 use Rattle.due_text.specs.Runs.{run, solid?, NextWord}
 use Rattle.due_text.proofs.Cutting.{run-within, first-piece}
 
-pub only-newline : (byte : ℕ) → (byte ≡ 32 → ⊥) → (byte ≡ 9 → ⊥) → (byte ≡ 13 → ⊥) → eqb byte 10 ≡ blank? byte
-only-newline byte space tab return = rw (ne-eqb byte 32 space, ne-eqb byte 9 tab, ne-eqb byte 13 return)
+-- the four blank bytes, tested one after the other
+module _ (byte : ℕ) where
+  pub space : byte ≡ 32 → true ≡ blank? byte
+  space e = rw (eq-eqb byte 32 e)
+
+  module _ (no-space : byte ≡ 32 → ⊥) where
+    pub tab : byte ≡ 9 → true ≡ blank? byte
+    tab e = rw (ne-eqb byte 32 no-space, eq-eqb byte 9 e)
+
+    module _ (no-tab : byte ≡ 9 → ⊥) where
+      pub carriage-return : byte ≡ 13 → true ≡ blank? byte
+      carriage-return e = rw (ne-eqb byte 32 no-space, ne-eqb byte 9 no-tab, eq-eqb byte 13 e)
+
+      pub only-newline : (byte ≡ 13 → ⊥) → eqb byte 10 ≡ blank? byte
+      only-newline no-return = rw (ne-eqb byte 32 no-space, ne-eqb byte 9 no-tab, ne-eqb byte 13 no-return)
 
 -- blank bytes in front of the words do not count
 past-blanks : (text : List ℕ) → wordsOf text ≡ wordsOf (drop (run solid? text) text)

@@ -106,22 +106,22 @@ module _ {text room₀ room : List ℕ} {at number count : ℕ} (s : SoFar text 
       pub no-place : count ≡ length room → keysOutcome (Bad (number + 1) TooManyKeys) room ≡ keysOf text room₀
       no-place f = stops (rw (length-take-le count room (s .places), eq-eqb count (length room₀) (f ∙ s .same-room)) at (turn r))
 
-      module _ (f : count ≡ length room → ⊥) where
-        free : count < length room
-        free = omega (arith, s .places)
+      module _ (free : count < length room) where
+        not-full : count ≡ length room₀ → ⊥
+        not-full e = omega (arith, s .same-room)
 
         pub repeated : listed? key (take count room) ≡ true → keysOutcome (Bad (number + 1) (Refused RepeatedKeys)) room ≡ keysOf text room₀
-        repeated l = stops (rw (length-take-le count room (s .places), ne-eqb count (length room₀) (λ z. f (z ∙ sym (s .same-room))), l) at (turn r))
+        repeated l = stops (rw (length-take-le count room (s .places), ne-eqb count (length room₀) not-full, l) at (turn r))
 
         pub after-key : listed? key (take count room) ≡ false → SoFar text room₀ (set room count key) next (number + 1) (count + 1)
         after-key l =
             record {
               few = omega (arith, s .few);
               within = omega arith;
-              places = simp length-set (omega (arith, free));
+              places = simp length-set (omega arith);
               same-room = simp length-set (s .same-room);
               untouched =
                   drop-set-lt (count + 1) room count key (omega arith) ∙ sym (drop-drop 1 count room) ∙ ap (drop 1) (s .untouched) ∙ drop-drop 1 count room₀;
               to-come = rw (add-one count, take-suc-set room count key free)
-                  (rw (length-take-le count room (s .places), ne-eqb count (length room₀) (λ z. f (z ∙ sym (s .same-room))), l) at (turn r));
+                  (rw (length-take-le count room (s .places), ne-eqb count (length room₀) not-full, l) at (turn r));
             }

@@ -3,6 +3,7 @@ use Prim.Native.Nat.{_+_, _-_, min}
 use mathlib.Core.Path.{sym, _∙_}
 use mathlib.Core.Logic.{⊎-elim}
 use borrow.Author.Needs.{needs}
+use native.Mathlib.Omega.{arith}
 use denote.Ref.{now}
 use lib.ListN.{length}
 use lib.Seq.{length-take-le}
@@ -29,7 +30,7 @@ at-match c =
     ⊎-elim (λ w. rw (w .2, w .3) (after-blank (l .before .loop .inv) (l .loop-test .taken) found (sym (w .1 .given .1) ∙ r .read .ensures)))
     (λ w.
     rw (w .7, w .8)
-    (after-key (l .before .loop .inv) (l .loop-test .taken) found (sym (w .1 .given .1) ∙ r .read .ensures) (w .3 .left) (sym (w .5 .ensures) ∙ w .6 .left)))
+    (after-key (l .before .loop .inv) (l .loop-test .taken) found (sym (w .1 .given .1) ∙ r .read .ensures) (omega (arith, w .3 .left)) (sym (w .5 .ensures) ∙ w .6 .left)))
     (c .match .came)
 
 loop-holds : tie.Need-loop-holds Inv-loop μ-loop
@@ -66,7 +67,7 @@ returns : tie.Need-returns Inv-loop μ-loop
 returns c =
     let r : tie.After-read Inv-loop μ-loop = c .before .before .before .before in
     let l = r .before .before .before in
-    no-place (l .before .loop .inv) (l .loop-test .taken) (r .before .before .find .ensures .0) (sym (c .before .before .said .given .1) ∙ r .read .ensures) (c .if1 .taken)
+    no-place (l .before .loop .inv) (l .loop-test .taken) (r .before .before .find .ensures .0) (sym (c .before .before .said .given .1) ∙ r .read .ensures) (omega arith)
 
 slice-reshare-prefix-listed : tie.Need-slice-reshare-prefix-listed Inv-loop μ-loop
 slice-reshare-prefix-listed c = search needs
@@ -85,7 +86,7 @@ returns-2 c =
     let r : tie.After-read Inv-loop μ-loop = c .before .before .before .before .before .before .before in
     let l = r .before .before .before in
     repeated (l .before .loop .inv) (l .loop-test .taken) (r .before .before .find .ensures .0) (sym (c .before .before .before .before .before .said .given .1) ∙ r .read .ensures)
-    (c .before .before .before .if1 .left) (sym (c .before .listed .ensures) ∙ c .if2 .taken)
+    (omega arith) (sym (c .before .listed .ensures) ∙ c .if2 .taken)
 
 mul-room : tie.Need-mul-room Inv-loop μ-loop
 mul-room c = search needs

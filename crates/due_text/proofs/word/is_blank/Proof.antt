@@ -1,17 +1,16 @@
 -- `due_text::word::is_blank` meets its contract: each answer by the tests that led there. Assumes nothing.
-use borrow.Author.Tests.{eq-eqb, ne-eqb}
-use Rattle.due_text.proofs.NextWords.{only-newline}
+use Rattle.due_text.proofs.NextWords.{space, tab, carriage-return, only-newline}
 use Rattle.due_text.proofs.word.is_blank.Statement.{statement}
 use Rattle.due_text.proofs.word.is_blank.Tie as tie
 
 returns : tie.Need-returns
-returns c = simp (eq-eqb _ _ (c .if1 .taken))
+returns c = space _ (c .if1 .taken)
 
 returns-2 : tie.Need-returns-2
-returns-2 c = simp (ne-eqb _ _ (c .before .if1 .left), eq-eqb _ _ (c .if2 .taken))
+returns-2 c = tab _ (c .before .if1 .left) (c .if2 .taken)
 
 returns-3 : tie.Need-returns-3
-returns-3 c = simp (ne-eqb _ _ (c .before .before .if1 .left), ne-eqb _ _ (c .before .if2 .left), eq-eqb _ _ (c .if3 .taken))
+returns-3 c = carriage-return _ (c .before .before .if1 .left) (c .before .if2 .left) (c .if3 .taken)
 
 returns-4 : tie.Need-returns-4
 returns-4 c = only-newline _ (c .before .before .if1 .left) (c .before .if2 .left) (c .if3 .left)
