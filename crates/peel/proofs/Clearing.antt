@@ -1,7 +1,7 @@
 -- A buffer is set to zero from its front on. Assumes nothing.
 use mathlib.Core.Path.{_≡_, refl, ap, _∙_}
 use mathlib.Core.List.{List, [], _∷_, _++_, append-nil}
-use Prim.Native.Nat.{ℕ, zero, suc, _+_, _<_, _≤_}
+use Prim.Native.Nat.{ℕ, zero, suc, _+_, _<_, _≤_, _-_}
 use native.Mathlib.Nat.{le-of-suc-le-suc, not-suc-le-zero, le-antisymm}
 use native.Mathlib.Numerals.{add-one}
 use native.Mathlib.Omega.{arith}
@@ -12,6 +12,10 @@ pub record Clearing (before l : List ℕ) (i : ℕ) : Type 0 where
   pub within : i ≤ length before
   pub same : length l ≡ length before
   pub so-far : l ≡ replicate i 0 ++ drop i before
+
+-- what is left of it
+abbrev pub left : List ℕ → ℕ → ℕ
+left before i = length before - i
 
 pub clear-start : (before : List ℕ) → Clearing before before 0
 clear-start before = record { within = omega arith; same = refl; so-far = refl }
