@@ -11,18 +11,6 @@ use borrow.Author.Needs.{needs}
 use Rattle.c_api.proofs.gp_flush_key.Statement.{statement}
 use Rattle.c_api.proofs.gp_flush_key.Tie as tie
 
-flush-key-requires : tie.Need-flush-key-requires
-flush-key-requires c κs = search needs
-
-enum-known-answer : tie.Need-enum-known-answer
-enum-known-answer c = search needs
-
-enum-known-answer-2 : tie.Need-enum-known-answer-2
-enum-known-answer-2 c = search needs
-
-code-requires : tie.Need-code-requires
-code-requires c κs = search needs
-
 -- what is told and left where `flush_key` answered so
 answer : (c : tie.After-flush-key) (answered : KeyAnswer) → answered ≡ c .flush-key .result → let a = c .before .args in
     toldKey (paper answered) (now (a .key)) ≡ toldKey (flushKeyOf (a .unit) (a .valve) (a .seconds)) (now (a .key))
@@ -37,12 +25,4 @@ returns-2 c =
     ∙ answer (c .before .before .before .before) _ (sym (c .before .before .answer2 .given .1))
 
 pub gp-flush-key-spec : {M : Type 1} → statement M
-gp-flush-key-spec =
-    tie.close
-    (tie.spec
-    flush-key-requires
-    enum-known-answer
-    enum-known-answer-2
-    code-requires
-    returns
-    returns-2)
+gp-flush-key-spec = tie.close (tie.spec (search needs) (search needs) (search needs) (search needs) returns returns-2)

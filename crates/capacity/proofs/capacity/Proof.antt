@@ -7,18 +7,9 @@ use Rattle.capacity.proofs.EverySize.{entry}
 use Rattle.capacity.proofs.capacity.Statement.{statement}
 use Rattle.capacity.proofs.capacity.Tie as tie
 
-mul-wide : tie.Need-mul-wide
-mul-wide c = search needs
-
-array-read-wide : tie.Need-array-read-wide
-array-read-wide c = search needs
-
-wide-requires : tie.Need-wide-requires
-wide-requires c κs = search needs
-
 returns : tie.Need-returns
 unfolding entries
 returns c = let n = c .before .args .n in subst (Capacity n) (sym (c .wide .ensures)) (entry n (c .before .pre))
 
 pub capacity-spec : {M : Type 1} → statement M
-capacity-spec = tie.close (tie.spec mul-wide array-read-wide wide-requires returns)
+capacity-spec = tie.close (tie.spec (search needs) (search needs) (search needs) returns)

@@ -16,77 +16,23 @@ use borrow.Author.Needs.{needs}
 use Rattle.contains8.proofs.ask.Statement.{statement}
 use Rattle.contains8.proofs.ask.Tie as tie
 
-mix-requires : tie.Need-mix-requires
-mix-requires c κs = search needs
-
-fingerprint8-requires : tie.Need-fingerprint8-requires
-fingerprint8-requires c κs = search needs
-
-slots-requires : tie.Need-slots-requires
-slots-requires c κs = search needs
-
-cast-total : tie.Need-cast-total
-cast-total c = search needs
-
-cast-total-2 : tie.Need-cast-total-2
-cast-total-2 c = search needs
-
-mul-total : tie.Need-mul-total
-mul-total c = search needs
-
-add-total : tie.Need-add-total
-add-total c = search needs
-
-refused-requires : tie.Need-refused-requires
-refused-requires c κs = search needs
-
 returns : tie.Need-returns
 returns c = c .refused .ensures ∙ ap told (refused-where 8 _ _ _ (λ good whole. c .before .if1 .taken (sym whole)))
-
-cast-if2 : tie.Need-cast-if2
-cast-if2 c = search needs
-
-refused-requires-2 : tie.Need-refused-requires-2
-refused-requires-2 c κs = search needs
 
 returns-2 : tie.Need-returns-2
 returns-2 c = c .refused2 .ensures ∙ ap told (refused-where 8 _ _ _ (λ good whole. omega (arith, passes _ good .fits, c .before .if2 .taken)))
 
-refused-requires-3 : tie.Need-refused-requires-3
-refused-requires-3 c κs = search needs
-
 returns-3 : tie.Need-returns-3
 returns-3 c = c .refused3 .ensures ∙ ap told (refused-where 8 _ _ _ (λ good whole. passes _ good .some (c .before .if3 .taken)))
-
-cast-if4 : tie.Need-cast-if4
-cast-if4 c = search needs
-
-add-if4 : tie.Need-add-if4
-add-if4 c = search needs
-
-cast-if4-2 : tie.Need-cast-if4-2
-cast-if4-2 c = search needs
-
-refused-requires-4 : tie.Need-refused-requires-4
-refused-requires-4 c κs = search needs
 
 returns-4 : tie.Need-returns-4
 returns-4 c = c .refused4 .ensures ∙ ap told (refused-where 8 _ _ _ (λ good whole. c .before .if4 .taken (passes _ good .mask-below)))
 
-refused-requires-5 : tie.Need-refused-requires-5
-refused-requires-5 c κs = search needs
-
 returns-5 : tie.Need-returns-5
 returns-5 c = c .refused5 .ensures ∙ ap told (refused-where 8 _ _ _ (λ good whole. c .before .if5 .taken (passes _ good .none-masked)))
 
-refused-requires-6 : tie.Need-refused-requires-6
-refused-requires-6 c κs = search needs
-
 returns-6 : tie.Need-returns-6
 returns-6 c = c .refused6 .ensures ∙ ap told (refused-where 8 _ _ _ (λ good whole. omega (arith, passes _ good .low, c .before .if6 .taken)))
-
-refused-requires-7 : tie.Need-refused-requires-7
-refused-requires-7 c κs = search needs
 
 returns-7 : tie.Need-returns-7
 returns-7 c = c .refused7 .ensures ∙ ap told (refused-where 8 _ _ _ (λ good whole. omega (arith, passes _ good .high, c .before .if7 .taken)))
@@ -117,24 +63,6 @@ whole-at c = c .before .before .before .before .before .before .if1 .left
 aimed-at : (c : tie.Else7) → let a = entry c .args in Aimed (a .d) (now (a .fingerprints)) (a .key) (made c .slots .result)
 aimed-at c = aimed _ _ _ (good-at c) (whole-at c) (made c .before .before .mix .ensures) (made c .slots .ensures)
 
-array-read-first : tie.Need-array-read-first
-array-read-first c = search needs
-
-cast-first : tie.Need-cast-first
-cast-first c = search needs
-
-array-read-second : tie.Need-array-read-second
-array-read-second c = search needs
-
-cast-second : tie.Need-cast-second
-cast-second c = search needs
-
-array-read-third : tie.Need-array-read-third
-array-read-third c = search needs
-
-cast-third : tie.Need-cast-third
-cast-third c = search needs
-
 shared-slice-read-if8 : tie.Need-shared-slice-read-if8
 shared-slice-read-if8 c = aimed-at (c .before) .in0
 
@@ -161,39 +89,12 @@ pub ask-spec : {M : Type 1} → statement M
 ask-spec =
     tie.close
     (tie.spec
-    mix-requires
-    fingerprint8-requires
-    slots-requires
-    cast-total
-    cast-total-2
-    mul-total
-    add-total
-    refused-requires
-    returns
-    cast-if2
-    refused-requires-2
-    returns-2
-    refused-requires-3
-    returns-3
-    cast-if4
-    add-if4
-    cast-if4-2
-    refused-requires-4
-    returns-4
-    refused-requires-5
-    returns-5
-    refused-requires-6
-    returns-6
-    refused-requires-7
-    returns-7
-    array-read-first
-    cast-first
-    array-read-second
-    cast-second
-    array-read-third
-    cast-third
-    shared-slice-read-if8
-    shared-slice-read-if8-2
-    shared-slice-read-if8-3
-    returns-8
-    returns-9)
+    (search needs) (search needs) (search needs) (search needs) (search needs) (search needs) (search needs) (search needs) returns
+    (search needs) (search needs) returns-2
+    (search needs) returns-3
+    (search needs) (search needs) (search needs) (search needs) returns-4
+    (search needs) returns-5
+    (search needs) returns-6
+    (search needs) returns-7
+    (search needs) (λ c. search needs) (search needs) (λ c. search needs) (search needs) (λ c. search needs) shared-slice-read-if8 shared-slice-read-if8-2
+    shared-slice-read-if8-3 returns-8 returns-9)

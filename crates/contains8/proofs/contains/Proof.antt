@@ -10,12 +10,6 @@ use borrow.Author.Needs.{needs}
 use Rattle.contains8.proofs.contains.Statement.{statement}
 use Rattle.contains8.proofs.contains.Tie as tie
 
-ask-requires : tie.Need-ask-requires
-ask-requires c κs = search needs
-
-refusal-requires : tie.Need-refusal-requires
-refusal-requires c κs = search needs
-
 -- the answer of which this is told
 answer : (c : tie.After-ask) (a : Answer Bool) → told a ≡ c .ask .result → let args = c .before .before .args in
     a ≡ containsOf 8 (args .d) (now (args .fingerprints)) (args .key)
@@ -31,4 +25,4 @@ returns-3 : tie.Need-returns-3
 returns-3 c = c .refusal .ensures ∙ neither-told 8 _ _ _ (c .before .before .ask .ensures) (c .before .match .rest .0 .1) (c .before .match .rest .1)
 
 pub contains-spec : {M : Type 1} → statement M
-contains-spec = tie.close (tie.spec ask-requires refusal-requires returns returns-2 returns-3)
+contains-spec = tie.close (tie.spec (search needs) (search needs) returns returns-2 returns-3)

@@ -8,14 +8,8 @@ use Rattle.contains8.proofs.contains_bytes.Tie as tie
 returns : tie.Need-returns
 returns c = short 8 _ _ _ (c .if1 .taken)
 
-parse-requires : tie.Need-parse-requires
-parse-requires c κs = search needs
-
-contains-requires : tie.Need-contains-requires
-contains-requires c κs = search needs
-
 returns-2 : tie.Need-returns-2
 returns-2 c = c .contains .ensures ∙ long 8 _ _ _ (c .before .before .if1 .left) (c .before .parse .ensures)
 
 pub contains-bytes-spec : {M : Type 1} → statement M
-contains-bytes-spec = tie.close (tie.spec returns parse-requires contains-requires returns-2)
+contains-bytes-spec = tie.close (tie.spec returns (search needs) (search needs) returns-2)

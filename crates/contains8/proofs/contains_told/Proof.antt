@@ -6,21 +6,11 @@ use borrow.Author.Needs.{needs}
 use Rattle.contains8.proofs.contains_told.Statement.{statement}
 use Rattle.contains8.proofs.contains_told.Tie as tie
 
-code-requires : tie.Need-code-requires
-code-requires c κs = search needs
-
 returns : tie.Need-returns
 returns c = c .code .ensures ∙ ap told (short 8 _ _ _ (c .before .if1 .taken))
-
-parse-requires : tie.Need-parse-requires
-parse-requires c κs = search needs
-
-ask-requires : tie.Need-ask-requires
-ask-requires c κs = search needs
 
 returns-2 : tie.Need-returns-2
 returns-2 c = c .ask .ensures ∙ ap told (long 8 _ _ _ (c .before .before .if1 .left) (c .before .parse .ensures))
 
 pub contains-told-spec : {M : Type 1} → statement M
-contains-told-spec =
-    tie.close (tie.spec code-requires returns parse-requires ask-requires returns-2)
+contains-told-spec = tie.close (tie.spec (search needs) returns (search needs) (search needs) returns-2)

@@ -9,15 +9,6 @@ use borrow.Author.Needs.{needs}
 use Rattle.contains8.proofs.refusal.Statement.{statement}
 use Rattle.contains8.proofs.refusal.Tie as tie
 
-check-requires : tie.Need-check-requires
-check-requires c κs = search needs
-
-enum-told : tie.Need-enum-told
-enum-told c = search needs
-
-enum-known-checked : tie.Need-enum-known-checked
-enum-known-checked c = search needs
-
 -- the refusal where `check` answered so
 answer : (c : tie.After-check) (checked : CheckAnswer) → checked ≡ c .check .result → let a = c .before .args in
     checkPaper checked then refuses 11 ≡ firstFault (a .segment) (a .mask) (a .span)
@@ -30,4 +21,4 @@ returns-2 : tie.Need-returns-2
 returns-2 c = answer (c .before .before .before) _ (sym (c .before .checked .given .1))
 
 pub refusal-spec : {M : Type 1} → statement M
-refusal-spec = tie.close (tie.spec check-requires enum-told enum-known-checked returns returns-2)
+refusal-spec = tie.close (tie.spec (search needs) (search needs) (search needs) returns returns-2)

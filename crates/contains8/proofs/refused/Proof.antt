@@ -5,14 +5,8 @@ use borrow.Author.Needs.{needs}
 use Rattle.contains8.proofs.refused.Statement.{statement}
 use Rattle.contains8.proofs.refused.Tie as tie
 
-refusal-requires : tie.Need-refusal-requires
-refusal-requires c κs = search needs
-
-code-requires : tie.Need-code-requires
-code-requires c κs = search needs
-
 returns : tie.Need-returns
 returns c = c .code .ensures ∙ ap told (c .before .refusal .ensures)
 
 pub refused-spec : {M : Type 1} → statement M
-refused-spec = tie.close (tie.spec refusal-requires code-requires returns)
+refused-spec = tie.close (tie.spec (search needs) (search needs) returns)

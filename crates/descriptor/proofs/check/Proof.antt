@@ -14,9 +14,6 @@ use Rattle.descriptor.specs.Masks.{mask-mod}
 use Rattle.descriptor.proofs.check.Statement.{statement}
 use Rattle.descriptor.proofs.check.Tie as tie
 
-is-length-requires : tie.Need-is-length-requires
-is-length-requires c κs = search needs
-
 returns : tie.Need-returns
 unfolding checkOf
 returns c = simp (sym (c .before .is-length .ensures) ∙ not-true _ (c .if1 .taken))
@@ -87,6 +84,4 @@ returns-6 c =
     last-check (c .before) false (le-ltb longest (fingerprints (c .before)) (omega arith))
 
 pub check-spec : {M : Type 1} → statement M
-check-spec =
-    tie.close
-    (tie.spec is-length-requires returns sub-if2 returns-2 returns-3 returns-4 mul-if5 sub-if5 returns-5 returns-6)
+check-spec = tie.close (tie.spec (search needs) returns sub-if2 returns-2 returns-3 returns-4 mul-if5 sub-if5 returns-5 returns-6)

@@ -13,11 +13,8 @@ returns c = sym (no-length (c .before .args .size) (λ p. omega (arith, at-least
 returns-2 : tie.Need-returns-2
 returns-2 c = sym (no-length (c .before .before .args .size) (λ p. omega (arith, at-most p)))
 
-sub-result : tie.Need-sub-result
-sub-result c = search needs
-
 returns-3 : tie.Need-returns-3
 returns-3 c = length-test (c .before .before .args .size) (c .before .if1 .left) (c .if2 .left)
 
 pub is-length-spec : {M : Type 1} → statement M
-is-length-spec = tie.close (tie.spec returns returns-2 sub-result returns-3)
+is-length-spec = tie.close (tie.spec returns returns-2 (search needs) returns-3)

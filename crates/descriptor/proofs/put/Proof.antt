@@ -17,24 +17,6 @@ Inv-loop room₀ at x count place₀ rest₀ left₀ room place rest left =
 abbrev μ-loop : tie.MeasureT-loop
 μ-loop room₀ at x count place₀ rest₀ left₀ room place rest left = left
 
-loop-holds : tie.Need-loop-holds Inv-loop μ-loop
-loop-holds c = search needs
-
-cast-room : tie.Need-cast-room Inv-loop μ-loop
-cast-room c = search needs
-
-slice-write-room : tie.Need-slice-write-room Inv-loop μ-loop
-slice-write-room c = search needs
-
-add-place : tie.Need-add-place Inv-loop μ-loop
-add-place c = search needs
-
-sub-left : tie.Need-sub-left Inv-loop μ-loop
-sub-left c = search needs
-
-loop-less : tie.Need-loop-less Inv-loop μ-loop
-loop-less c = search needs
-
 loop-again : tie.Need-loop-again Inv-loop μ-loop
 loop-again c =
     let i = c .before .loop in
@@ -53,14 +35,5 @@ pub put-spec : {M : Type 1} → statement M
 put-spec =
     tie.close
     (tie.spec
-    Inv-loop
-    μ-loop
-    loop-holds
-    cast-room
-    slice-write-room
-    add-place
-    sub-left
-    loop-less
-    loop-again
-    same-length
-    returns)
+    Inv-loop μ-loop
+    (λ c. search needs) (search needs) (search needs) (search needs) (search needs) (search needs) loop-again same-length returns)

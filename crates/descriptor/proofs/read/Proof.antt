@@ -15,24 +15,12 @@ use Rattle.descriptor.proofs.read.Tie as tie
 returns : tie.Need-returns
 returns c = simp (lt-ltb _ _ (c .if1 .taken))
 
-parse-requires : tie.Need-parse-requires
-parse-requires c κs = search needs
-
-check-requires : tie.Need-check-requires
-check-requires c κs = search needs
-
 -- the answer where `check` answered so
 answer : (c : tie.After-check) (checked : CheckAnswer) → checked ≡ c .check .result
     → checkPaper checked then gives (c .before .parse .result) ≡ readOf (now (c .before .before .before .before .args .bytes))
 answer c checked e =
     read-follows (now (c .before .before .before .before .args .bytes)) (c .before .before .if1 .left) (c .before .parse .ensures)
     (ap checkPaper e ∙ c .check .ensures)
-
-enum-told : tie.Need-enum-told
-enum-told c = search needs
-
-enum-known-checked : tie.Need-enum-known-checked
-enum-known-checked c = search needs
 
 returns-2 : tie.Need-returns-2
 returns-2 c = answer (c .before .before) _ (sym (c .enum-told .given .1))
@@ -41,13 +29,4 @@ returns-3 : tie.Need-returns-3
 returns-3 c = answer (c .before .before .before) _ (sym (c .before .checked .given .1))
 
 pub read-spec : {M : Type 1} → statement M
-read-spec =
-    tie.close
-    (tie.spec
-    returns
-    parse-requires
-    check-requires
-    enum-told
-    enum-known-checked
-    returns-2
-    returns-3)
+read-spec = tie.close (tie.spec returns (search needs) (search needs) (search needs) (search needs) returns-2 returns-3)

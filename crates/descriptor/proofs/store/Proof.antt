@@ -3,30 +3,6 @@ use borrow.Author.Needs.{needs}
 use Rattle.descriptor.proofs.store.Statement.{statement}
 use Rattle.descriptor.proofs.store.Tie as tie
 
-cast-size : tie.Need-cast-size
-cast-size c = search needs
-
-cast-mask : tie.Need-cast-mask
-cast-mask c = search needs
-
-cast-count : tie.Need-cast-count
-cast-count c = search needs
-
-put-requires : tie.Need-put-requires
-put-requires c κs = search needs
-
-put-requires-2 : tie.Need-put-requires-2
-put-requires-2 c κs = search needs
-
-put-requires-3 : tie.Need-put-requires-3
-put-requires-3 c κs = search needs
-
-put-requires-4 : tie.Need-put-requires-4
-put-requires-4 c κs = search needs
-
-same-length : tie.Need-same-length
-same-length c = search needs
-
 returns : tie.Need-returns
 returns c =
     let put4 = c .before .before in
@@ -39,12 +15,4 @@ pub store-spec : {M : Type 1} → statement M
 store-spec =
     tie.close
     (tie.spec
-    cast-size
-    cast-mask
-    cast-count
-    put-requires
-    put-requires-2
-    put-requires-3
-    put-requires-4
-    same-length
-    returns)
+    (search needs) (search needs) (search needs) (search needs) (search needs) (search needs) (search needs) (search needs) returns)

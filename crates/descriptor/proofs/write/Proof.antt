@@ -17,9 +17,6 @@ use Rattle.descriptor.proofs.write.Tie as tie
 returns : tie.Need-returns
 returns c = simp (lt-ltb _ _ (c .if1 .taken))
 
-check-requires : tie.Need-check-requires
-check-requires c κs = search needs
-
 -- the outcome where `check` answered so
 outcome-of : (c : tie.After-check) (checked : CheckAnswer) → checked ≡ c .check .result
     → let a = c .before .before .before .args in
@@ -28,18 +25,6 @@ outcome-of : (c : tie.After-check) (checked : CheckAnswer) → checked ≡ c .ch
 outcome-of c checked e =
     let a = c .before .before .before .args in
     write-follows (a .d) (now (a .room)) (c .before .if1 .left) (ap checkPaper e ∙ c .check .ensures)
-
-enum-told : tie.Need-enum-told
-enum-told c = search needs
-
-store-requires : tie.Need-store-requires
-store-requires c κs = search needs
-
-enum-known-checked : tie.Need-enum-known-checked
-enum-known-checked c = search needs
-
-same-length : tie.Need-same-length
-same-length c = search needs
 
 returns-2 : tie.Need-returns-2
 returns-2 c =
@@ -51,14 +36,4 @@ returns-3 : tie.Need-returns-3
 returns-3 c = outcome-of (c .before .before .before) _ (sym (c .before .checked .given .1))
 
 pub write-spec : {M : Type 1} → statement M
-write-spec =
-    tie.close
-    (tie.spec
-    returns
-    check-requires
-    enum-told
-    store-requires
-    enum-known-checked
-    same-length
-    returns-2
-    returns-3)
+write-spec = tie.close (tie.spec returns (search needs) (search needs) (search needs) (search needs) (search needs) returns-2 returns-3)

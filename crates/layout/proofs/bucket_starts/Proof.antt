@@ -9,12 +9,6 @@ use Rattle.layout.specs.Fits.{Fits, layout-fits, count-small}
 use Rattle.layout.proofs.bucket_starts.Statement.{statement}
 use Rattle.layout.proofs.bucket_starts.Tie as tie
 
-layout-at-requires : tie.Need-layout-at-requires
-layout-at-requires c κs = search needs
-
-layout-at-requires-2 : tie.Need-layout-at-requires-2
-layout-at-requires-2 c κs = search needs
-
 power-above-requires : tie.Need-power-above-requires
 power-above-requires c κs =
     let b = c .before .before .before in
@@ -44,6 +38,4 @@ returns-2 c =
     c .power-above2 .ensures ∙ starts n _ (b .before .layout-at .ensures) (b .layout-at2 .ensures) (max-eq-left (c .before .if1 .left))
 
 pub bucket-starts-spec : {M : Type 1} → statement M
-bucket-starts-spec =
-    tie.close
-    (tie.spec layout-at-requires layout-at-requires-2 power-above-requires power-above-requires-2 returns returns-2)
+bucket-starts-spec = tie.close (tie.spec (search needs) (search needs) power-above-requires power-above-requires-2 returns returns-2)

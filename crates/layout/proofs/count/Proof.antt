@@ -4,18 +4,6 @@ use borrow.Author.Tests.{lt-ltb, le-ltb}
 use Rattle.layout.proofs.count.Statement.{statement}
 use Rattle.layout.proofs.count.Tie as tie
 
-sub-segments : tie.Need-sub-segments
-sub-segments c = search needs
-
-add-segments : tie.Need-add-segments
-add-segments c = search needs
-
-div-segments : tie.Need-div-segments
-div-segments c = search needs
-
-sub-result : tie.Need-sub-result
-sub-result c = search needs
-
 returns : tie.Need-returns
 returns c = simp (lt-ltb _ _ (c .if1 .taken))
 
@@ -23,4 +11,4 @@ returns-2 : tie.Need-returns-2
 returns-2 c = simp (le-ltb _ _ (c .if1 .left))
 
 pub count-spec : {M : Type 1} → statement M
-count-spec = tie.close (tie.spec sub-segments add-segments div-segments sub-result returns returns-2)
+count-spec = tie.close (tie.spec (search needs) (search needs) (search needs) (search needs) returns returns-2)

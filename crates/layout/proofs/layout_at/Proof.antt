@@ -10,9 +10,6 @@ use Rattle.layout.proofs.Room.{room}
 use Rattle.layout.proofs.layout_at.Statement.{statement}
 use Rattle.layout.proofs.layout_at.Tie as tie
 
-plain-requires : tie.Need-plain-requires
-plain-requires c κs = search needs
-
 returns : tie.Need-returns
 unfolding halves layoutOf
 returns c = let n = c .before .before .args .n in c .before .plain .ensures ∙ simp (le-ltb 4 n (omega arith))
@@ -47,5 +44,4 @@ returns-3 c =
     c .with .ensures ∙ ap halvedOf (p .plain .ensures) ∙ simp (lt-ltb 4 (args .n) (omega arith), eq-eqb (args .attempt % 4) 2 (b .if2 .left))
 
 pub layout-at-spec : {M : Type 1} → statement M
-layout-at-spec =
-    tie.close (tie.spec plain-requires returns returns-2 mul-with add-with with-requires returns-3)
+layout-at-spec = tie.close (tie.spec (search needs) returns returns-2 mul-with add-with with-requires returns-3)

@@ -6,12 +6,6 @@ use Rattle.layout.proofs.Room.{room, length-room, plain-parts}
 use Rattle.layout.proofs.plain.Statement.{statement}
 use Rattle.layout.proofs.plain.Tie as tie
 
-segment-length-requires : tie.Need-segment-length-requires
-segment-length-requires c κs = search needs
-
-capacity-requires : tie.Need-capacity-requires
-capacity-requires c κs = search needs
-
 count-requires : tie.Need-count-requires
 count-requires c κs =
     let length = length-room (c .before .before .pre) (c .before .segment-length .ensures) in
@@ -28,6 +22,4 @@ returns c =
     c .with .ensures ∙ plain-parts (b .before .segment-length .ensures) (b .capacity .ensures) (c .before .count .ensures)
 
 pub plain-spec : {M : Type 1} → statement M
-plain-spec =
-    tie.close
-    (tie.spec segment-length-requires capacity-requires count-requires with-requires returns)
+plain-spec = tie.close (tie.spec (search needs) (search needs) count-requires with-requires returns)

@@ -15,9 +15,6 @@ abbrev μ-loop : tie.MeasureT-loop
 loop-holds : tie.Need-loop-holds Inv-loop μ-loop
 loop-holds c = start (c .pre)
 
-mul-p : tie.Need-mul-p Inv-loop μ-loop
-mul-p c = omega arith
-
 loop-less : tie.Need-loop-less Inv-loop μ-loop
 loop-less c = let d = c .before .loop .inv in omega (arith, d .is, pow-pos (d .exponent))
 
@@ -28,5 +25,4 @@ returns : tie.Need-returns Inv-loop μ-loop
 returns c = done (c .before .before .pre) (c .loop-test .left) (c .before .loop .inv)
 
 pub power-above-spec : {M : Type 1} → statement M
-power-above-spec =
-    tie.close (tie.spec Inv-loop μ-loop loop-holds mul-p loop-less loop-again returns)
+power-above-spec = tie.close (tie.spec Inv-loop μ-loop loop-holds (λ c. omega arith) loop-less loop-again returns)

@@ -12,17 +12,11 @@ start p = p .before .before .before .before .before .before .before .before .bef
 abbrev counted : tie.After-take-all → tie.After-count-hashes
 counted a = a .before .before .before .before .before .before .before .before .before .before .before .before .before .before .before
 
-slice-relend-prefix-place : tie.Need-slice-relend-prefix-place
-slice-relend-prefix-place c = search needs
-
 slice-aggregate-place : tie.Need-slice-aggregate-place
 slice-aggregate-place c = sym (length-take-le _ _ (c .before .before .before .before .before .before .before .before .pre .order-room))
 
 place-requires : tie.Need-place-requires
 place-requires c κs = can-place (c .before .before .before .before .before .before .before .before .before .pre)
-
-slice-reshare-prefix-count-hashes : tie.Need-slice-reshare-prefix-count-hashes
-slice-reshare-prefix-count-hashes c = search needs
 
 slice-aggregate-count-hashes : tie.Need-slice-aggregate-count-hashes
 slice-aggregate-count-hashes c =
@@ -34,9 +28,6 @@ count-hashes-requires c κs =
     let p : tie.After-place = c .before .before .before .before .before .before .before in
     can-count (start p .pre) _ (p .place .ensures) _
 
-stack-lone-requires : tie.Need-stack-lone-requires
-stack-lone-requires c κs = search needs
-
 take-all-requires : tie.Need-take-all-requires
 take-all-requires c κs =
     let s : tie.After-stack-lone = c .before .before .before .before .before .before .before in
@@ -44,24 +35,6 @@ take-all-requires c κs =
     let p : tie.After-place = k .before .before .before .before .before .before .before .before in
     can-take-all (start p .pre) _ (p .place .ensures) _ _ _ (k .count-hashes .ensures)
     (k .count-hashes .kept .1 .1 .1 .1 .0) (s .stack-lone .kept .1 .0) (s .stack-lone .ensures)
-
-same-length : tie.Need-same-length
-same-length c = search needs
-
-same-length-2 : tie.Need-same-length-2
-same-length-2 c = search needs
-
-same-length-3 : tie.Need-same-length-3
-same-length-3 c = search needs
-
-same-length-4 : tie.Need-same-length-4
-same-length-4 c = search needs
-
-same-length-5 : tie.Need-same-length-5
-same-length-5 c = search needs
-
-same-length-6 : tie.Need-same-length-6
-same-length-6 c = search needs
 
 returns : tie.Need-returns
 returns c =
@@ -74,18 +47,7 @@ pub run-spec : {M : Type 1} → statement M
 run-spec =
     tie.close
     (tie.spec
-    slice-relend-prefix-place
-    slice-aggregate-place
-    place-requires
-    slice-reshare-prefix-count-hashes
-    slice-aggregate-count-hashes
-    count-hashes-requires
-    stack-lone-requires
-    take-all-requires
-    same-length
-    same-length-2
-    same-length-3
-    same-length-4
-    same-length-5
-    same-length-6
-    returns)
+    (search needs) slice-aggregate-place place-requires
+    (search needs) slice-aggregate-count-hashes count-hashes-requires
+    (search needs) take-all-requires
+    (search needs) (search needs) (search needs) (search needs) (search needs) (search needs) returns)

@@ -9,20 +9,8 @@ use Rattle.words.proofs.Fits.{product-below}
 use Rattle.words.proofs.mul_high.Statement.{statement}
 use Rattle.words.proofs.mul_high.Tie as tie
 
-cast-low : tie.Need-cast-low
-cast-low c = search needs
-
-cast-high : tie.Need-cast-high
-cast-high c = search needs
-
-cast-low-product : tie.Need-cast-low-product
-cast-low-product c = search needs
-
 mul-low-product : tie.Need-mul-low-product
 mul-low-product c = record { fits = product-below 32 32 (omega arith) (omega arith) }
-
-cast-high-product : tie.Need-cast-high-product
-cast-high-product c = search needs
 
 mul-high-product : tie.Need-mul-high-product
 mul-high-product c = record { fits = product-below 32 32 (omega arith) (omega arith) }
@@ -46,14 +34,4 @@ returns c = top-product (2 ^ 32) (c .args .hash) (c .args .n) (pow-pos 32)
 
 pub mul-high-spec : {M : Type 1} → statement M
 mul-high-spec =
-    tie.close
-    (tie.spec
-    cast-low
-    cast-high
-    cast-low-product
-    mul-low-product
-    cast-high-product
-    mul-high-product
-    add-result
-    cast-result
-    returns)
+    tie.close (tie.spec (search needs) (search needs) (search needs) mul-low-product (search needs) mul-high-product add-result cast-result returns)

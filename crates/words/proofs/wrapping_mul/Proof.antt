@@ -14,14 +14,8 @@ mul-wrapping-add-u64 c = record { fits = product-below 32 32 (omega arith) (omeg
 mul-wrapping-add-u64-2 : tie.Need-mul-wrapping-add-u64-2
 mul-wrapping-add-u64-2 c = record { fits = product-below 32 32 (omega arith) (omega arith) }
 
-wrapping-add-u64-requires : tie.Need-wrapping-add-u64-requires
-wrapping-add-u64-requires c κs = search needs
-
 mul-wrapping-add-u64-3 : tie.Need-mul-wrapping-add-u64-3
 mul-wrapping-add-u64-3 c = record { fits = product-below 32 32 (omega arith) (omega arith) }
-
-wrapping-add-u64-requires-2 : tie.Need-wrapping-add-u64-requires-2
-wrapping-add-u64-requires-2 c κs = search needs
 
 returns : tie.Need-returns
 returns c =
@@ -29,12 +23,4 @@ returns c =
     ∙ low-product (2 ^ 32) (c .before .before .args .a) (c .before .before .args .b) (c .before .wrapping-add-u64 .result) (c .before .wrapping-add-u64 .ensures)
 
 pub wrapping-mul-spec : {M : Type 1} → statement M
-wrapping-mul-spec =
-    tie.close
-    (tie.spec
-    mul-wrapping-add-u64
-    mul-wrapping-add-u64-2
-    wrapping-add-u64-requires
-    mul-wrapping-add-u64-3
-    wrapping-add-u64-requires-2
-    returns)
+wrapping-mul-spec = tie.close (tie.spec mul-wrapping-add-u64 mul-wrapping-add-u64-2 (search needs) mul-wrapping-add-u64-3 (search needs) returns)

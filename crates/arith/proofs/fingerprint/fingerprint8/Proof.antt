@@ -6,12 +6,9 @@ use borrow.Author.Needs.{needs}
 use Rattle.arith.proofs.fingerprint.fingerprint8.Statement.{statement}
 use Rattle.arith.proofs.fingerprint.fingerprint8.Tie as tie
 
-cast-result : tie.Need-cast-result
-cast-result c = search needs
-
 returns : tie.Need-returns
 unfolding fingerprintOf xorshift
 returns c = refl
 
 pub fingerprint8-spec : {M : Type 1} → statement M
-fingerprint8-spec = tie.close (tie.spec cast-result returns)
+fingerprint8-spec = tie.close (tie.spec (search needs) returns)

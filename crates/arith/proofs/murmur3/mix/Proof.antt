@@ -5,15 +5,9 @@ use borrow.Author.Needs.{needs}
 use Rattle.arith.proofs.murmur3.mix.Statement.{statement}
 use Rattle.arith.proofs.murmur3.mix.Tie as tie
 
-wrapping-add-u64-requires : tie.Need-wrapping-add-u64-requires
-wrapping-add-u64-requires c κs = search needs
-
-mix64-requires : tie.Need-mix64-requires
-mix64-requires c κs = search needs
-
 returns : tie.Need-returns
 unfolding hashOf
 returns c = c .mix64 .ensures ∙ ap mix64Of (c .before .wrapping-add-u64 .ensures)
 
 pub mix-spec : {M : Type 1} → statement M
-mix-spec = tie.close (tie.spec wrapping-add-u64-requires mix64-requires returns)
+mix-spec = tie.close (tie.spec (search needs) (search needs) returns)

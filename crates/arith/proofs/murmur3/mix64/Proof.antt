@@ -7,12 +7,6 @@ use borrow.Author.Needs.{needs}
 use Rattle.arith.proofs.murmur3.mix64.Statement.{statement}
 use Rattle.arith.proofs.murmur3.mix64.Tie as tie
 
-wrapping-mul-requires : tie.Need-wrapping-mul-requires
-wrapping-mul-requires c κs = search needs
-
-wrapping-mul-requires-2 : tie.Need-wrapping-mul-requires-2
-wrapping-mul-requires-2 c κs = search needs
-
 returns : tie.Need-returns
 unfolding mix64Of xorshift times
 returns c =
@@ -20,4 +14,4 @@ returns c =
     (c .wrapping-mul2 .ensures ∙ ap (λ (a : ℕ). times 0xc4ceb9fe1a85ec53 (xorshift 33 a)) (c .before .wrapping-mul .ensures))
 
 pub mix64-spec : {M : Type 1} → statement M
-mix64-spec = tie.close (tie.spec wrapping-mul-requires wrapping-mul-requires-2 returns)
+mix64-spec = tie.close (tie.spec (search needs) (search needs) returns)

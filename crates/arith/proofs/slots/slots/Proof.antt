@@ -17,15 +17,6 @@ cast-upper c = omega (arith, and-le-r (c .args .hash / 2 ^ 18) (c .args .mask))
 cast-lower : tie.Need-cast-lower
 cast-lower c = omega (arith, and-le-r (c .args .hash) (c .args .mask))
 
-mul-high-requires : tie.Need-mul-high-requires
-mul-high-requires c κs = search needs
-
-wrapping-add-u32-requires : tie.Need-wrapping-add-u32-requires
-wrapping-add-u32-requires c κs = search needs
-
-wrapping-add-u32-requires-2 : tie.Need-wrapping-add-u32-requires-2
-wrapping-add-u32-requires-2 c κs = search needs
-
 slots-are : {hash L mask span : ℕ} {s : List ℕ} → hash < 2 ^ 64 → s ≡ slotsModulo hash L mask span → SlotsAre hash L mask span s
 slots-are small is = record { always = is; in-room = λ room. is ∙ modulo-in-room _ _ _ _ small room }
 
@@ -39,12 +30,4 @@ returns c =
     slots-are (omega arith) (rw (after, next, first))
 
 pub slots-spec : {M : Type 1} → statement M
-slots-spec =
-    tie.close
-    (tie.spec
-    cast-upper
-    cast-lower
-    mul-high-requires
-    wrapping-add-u32-requires
-    wrapping-add-u32-requires-2
-    returns)
+slots-spec = tie.close (tie.spec cast-upper cast-lower (search needs) (search needs) (search needs) returns)

@@ -7,12 +7,6 @@ use borrow.Author.Needs.{needs}
 use Rattle.arith.proofs.splitmix64.output.Statement.{statement}
 use Rattle.arith.proofs.splitmix64.output.Tie as tie
 
-wrapping-mul-requires : tie.Need-wrapping-mul-requires
-wrapping-mul-requires c κs = search needs
-
-wrapping-mul-requires-2 : tie.Need-wrapping-mul-requires-2
-wrapping-mul-requires-2 c κs = search needs
-
 returns : tie.Need-returns
 unfolding outputOf xorshift times
 returns c =
@@ -20,4 +14,4 @@ returns c =
     (c .wrapping-mul2 .ensures ∙ ap (λ (a : ℕ). times 0x94d049bb133111eb (xorshift 27 a)) (c .before .wrapping-mul .ensures))
 
 pub output-spec : {M : Type 1} → statement M
-output-spec = tie.close (tie.spec wrapping-mul-requires wrapping-mul-requires-2 returns)
+output-spec = tie.close (tie.spec (search needs) (search needs) returns)

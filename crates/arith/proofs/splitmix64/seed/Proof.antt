@@ -8,15 +8,6 @@ use borrow.Author.Needs.{needs}
 use Rattle.arith.proofs.splitmix64.seed.Statement.{statement}
 use Rattle.arith.proofs.splitmix64.seed.Tie as tie
 
-wrapping-mul-requires : tie.Need-wrapping-mul-requires
-wrapping-mul-requires c κs = search needs
-
-wrapping-add-u64-requires : tie.Need-wrapping-add-u64-requires
-wrapping-add-u64-requires c κs = search needs
-
-output-requires : tie.Need-output-requires
-output-requires c κs = search needs
-
 returns : tie.Need-returns
 unfolding seedOf
 returns c =
@@ -29,5 +20,4 @@ returns c =
     ∙ sym (state-closed i))
 
 pub seed-spec : {M : Type 1} → statement M
-seed-spec =
-    tie.close (tie.spec wrapping-mul-requires wrapping-add-u64-requires output-requires returns)
+seed-spec = tie.close (tie.spec (search needs) (search needs) (search needs) returns)

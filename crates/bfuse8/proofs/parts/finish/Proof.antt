@@ -32,9 +32,6 @@ some c = omega (arith, c .if1 .left)
 
 -- ---- the needs
 
-slice-relend-prefix-repeated : tie.Need-slice-relend-prefix-repeated
-slice-relend-prefix-repeated c = search needs
-
 slice-aggregate-repeated : tie.Need-slice-aggregate-repeated
 slice-aggregate-repeated c =
     let e = entry-none (c .before) in
@@ -45,22 +42,10 @@ repeated-requires c κs =
     let e = entry-none (c .before) in
     length-take-le (length (e .args .keys .now)) (e .args .order .now) (in-order (c .before))
 
-same-length : tie.Need-same-length
-same-length c = search needs
-
 returns : tie.Need-returns
 returns c =
     let r : tie.After-repeated = c .before .before .before in
     ends-repeated 8 _ _ _ (sym (r .repeated .ensures) ∙ c .if2 .taken)
-
-clear-u8-requires : tie.Need-clear-u8-requires
-clear-u8-requires c κs = search needs
-
-same-length-2 : tie.Need-same-length-2
-same-length-2 c = search needs
-
-same-length-3 : tie.Need-same-length-3
-same-length-3 c = search needs
 
 returns-2 : tie.Need-returns-2
 returns-2 c =
@@ -69,32 +54,11 @@ returns-2 c =
     let r : tie.After-repeated = different .before .before .before in
     ends-stuck (entry-none (asked r) .pre) 8 (asked r .if1 .taken) (sym (r .repeated .ensures) ∙ different .if2 .left) (cleared .clear-u8 .ensures)
 
-cast-descriptor-at : tie.Need-cast-descriptor-at
-cast-descriptor-at c = search needs
-
-descriptor-at-requires : tie.Need-descriptor-at-requires
-descriptor-at-requires c κs = search needs
-
-clear-u8-requires-2 : tie.Need-clear-u8-requires-2
-clear-u8-requires-2 c κs = search needs
-
 fill8-requires : tie.Need-fill8-requires
 fill8-requires c κs =
     let cleared : tie.After-clear-u82 = c .before .before .before .before in
     let d : tie.After-descriptor-at = described cleared in
     can-fill-found (entry-found (d .before) .pre) (some (d .before)) (d .descriptor-at .ensures) (cleared .clear-u82 .ensures)
-
-cast-slots-for : tie.Need-cast-slots-for
-cast-slots-for c = search needs
-
-slots-for-requires : tie.Need-slots-for-requires
-slots-for-requires c κs = search needs
-
-same-length-4 : tie.Need-same-length-4
-same-length-4 c = search needs
-
-same-length-5 : tie.Need-same-length-5
-same-length-5 c = search needs
 
 returns-3 : tie.Need-returns-3
 returns-3 c =
@@ -108,21 +72,8 @@ pub finish-spec : {M : Type 1} → statement M
 finish-spec =
     tie.close
     (tie.spec
-    slice-relend-prefix-repeated
-    slice-aggregate-repeated
-    repeated-requires
-    same-length
-    returns
-    clear-u8-requires
-    same-length-2
-    same-length-3
-    returns-2
-    cast-descriptor-at
-    descriptor-at-requires
-    clear-u8-requires-2
-    fill8-requires
-    cast-slots-for
-    slots-for-requires
-    same-length-4
-    same-length-5
-    returns-3)
+    (search needs) slice-aggregate-repeated repeated-requires
+    (search needs) returns
+    (search needs) (search needs) (search needs) returns-2
+    (search needs) (search needs) (search needs) fill8-requires
+    (search needs) (search needs) (search needs) (search needs) returns-3)

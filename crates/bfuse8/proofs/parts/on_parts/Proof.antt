@@ -45,9 +45,6 @@ still-exact c =
       starts-length = s .1 .1 .1 .1 .1 .1 .1 .1 .0 ∙ e .starts-length;
     }
 
-search-requires : tie.Need-search-requires
-search-requires c κs = search needs
-
 finish-requires : tie.Need-finish-requires
 finish-requires c κs =
     let s : tie.After-search = c .before .before .before .before .before .before .before .before .before .before .before .before .before .before .before in
@@ -58,30 +55,6 @@ finish-requires c κs =
       order-length = s .search .kept .1 .1 .1 .1 .1 .1 .1 .0 ∙ exact s .exact .order-length;
       there = s .search .ensures .there;
     }
-
-clear-scratch-requires : tie.Need-clear-scratch-requires
-clear-scratch-requires c κs = search needs
-
-same-length : tie.Need-same-length
-same-length c = search needs
-
-same-length-2 : tie.Need-same-length-2
-same-length-2 c = search needs
-
-same-length-3 : tie.Need-same-length-3
-same-length-3 c = search needs
-
-same-length-4 : tie.Need-same-length-4
-same-length-4 c = search needs
-
-same-length-5 : tie.Need-same-length-5
-same-length-5 c = search needs
-
-same-length-6 : tie.Need-same-length-6
-same-length-6 c = search needs
-
-same-length-7 : tie.Need-same-length-7
-same-length-7 c = search needs
 
 returns : tie.Need-returns
 returns c =
@@ -97,14 +70,5 @@ pub on-parts-spec : {M : Type 1} → statement M
 on-parts-spec =
     tie.close
     (tie.spec
-    search-requires
-    finish-requires
-    clear-scratch-requires
-    same-length
-    same-length-2
-    same-length-3
-    same-length-4
-    same-length-5
-    same-length-6
-    same-length-7
-    returns)
+    (search needs) finish-requires
+    (search needs) (search needs) (search needs) (search needs) (search needs) (search needs) (search needs) (search needs) returns)

@@ -8,12 +8,6 @@ use Rattle.fuse.specs.Attempts.{describe, descriptorAt}
 use Rattle.fuse.proofs.attempts.descriptor_at.Statement.{statement}
 use Rattle.fuse.proofs.attempts.descriptor_at.Tie as tie
 
-layout-at-requires : tie.Need-layout-at-requires
-layout-at-requires c κs = search needs
-
-seed-requires : tie.Need-seed-requires
-seed-requires c κs = search needs
-
 sub-t5 : tie.Need-sub-t5
 sub-t5 c =
     let a = c .before .before in
@@ -25,4 +19,4 @@ unfolding descriptorAt
 returns c = ap₂ describe (c .before .seed .ensures) (c .before .before .layout-at .ensures)
 
 pub descriptor-at-spec : {M : Type 1} → statement M
-descriptor-at-spec = tie.close (tie.spec layout-at-requires seed-requires sub-t5 returns)
+descriptor-at-spec = tie.close (tie.spec (search needs) (search needs) sub-t5 returns)

@@ -5,11 +5,8 @@ use Rattle.layout.specs.declared.Layout.{Layout}
 use Rattle.fuse.proofs.attempts.slots_for.Statement.{statement}
 use Rattle.fuse.proofs.attempts.slots_for.Tie as tie
 
-plain-requires : tie.Need-plain-requires
-plain-requires c κs = search needs
-
 returns : tie.Need-returns
 returns c = ap (λ (layout : Layout). layout .«array_length») (c .plain .ensures)
 
 pub slots-for-spec : {M : Type 1} → statement M
-slots-for-spec = tie.close (tie.spec plain-requires returns)
+slots-for-spec = tie.close (tie.spec (search needs) returns)

@@ -20,21 +20,6 @@ start c = c .before .before .before .before .before .before .before .before
 
 -- ---- the needs
 
-cast-descriptor-at : tie.Need-cast-descriptor-at
-cast-descriptor-at c = search needs
-
-descriptor-at-requires : tie.Need-descriptor-at-requires
-descriptor-at-requires c κs = search needs
-
-clear-u16-requires : tie.Need-clear-u16-requires
-clear-u16-requires c κs = search needs
-
-clear-u64-requires : tie.Need-clear-u64-requires
-clear-u64-requires c κs = search needs
-
-clear-u64-requires-2 : tie.Need-clear-u64-requires-2
-clear-u64-requires-2 c κs = search needs
-
 run-requires : tie.Need-run-requires
 run-requires c κs =
     let order : tie.After-clear-u642 = c .before .before .before .before .before .before .before .before in
@@ -42,24 +27,6 @@ run-requires c κs =
     let counts = counts-clear sums in
     let d = described counts in
     can-run (start d .pre) _ (counts .clear-u16 .ensures) (sums .clear-u64 .ensures) (order .clear-u642 .ensures) (d .descriptor-at .ensures)
-
-same-length : tie.Need-same-length
-same-length c = search needs
-
-same-length-2 : tie.Need-same-length-2
-same-length-2 c = search needs
-
-same-length-3 : tie.Need-same-length-3
-same-length-3 c = search needs
-
-same-length-4 : tie.Need-same-length-4
-same-length-4 c = search needs
-
-same-length-5 : tie.Need-same-length-5
-same-length-5 c = search needs
-
-same-length-6 : tie.Need-same-length-6
-same-length-6 c = search needs
 
 returns : tie.Need-returns
 returns c =
@@ -74,16 +41,5 @@ pub try-attempt-spec : {M : Type 1} → statement M
 try-attempt-spec =
     tie.close
     (tie.spec
-    cast-descriptor-at
-    descriptor-at-requires
-    clear-u16-requires
-    clear-u64-requires
-    clear-u64-requires-2
-    run-requires
-    same-length
-    same-length-2
-    same-length-3
-    same-length-4
-    same-length-5
-    same-length-6
-    returns)
+    (search needs) (search needs) (search needs) (search needs) (search needs) run-requires
+    (search needs) (search needs) (search needs) (search needs) (search needs) (search needs) returns)

@@ -12,9 +12,6 @@ use Rattle.fuse.specs.Memory.{checksOf}
 use Rattle.fuse.proofs.check.check.Statement.{statement}
 use Rattle.fuse.proofs.check.check.Tie as tie
 
-cast-if1 : tie.Need-cast-if1
-cast-if1 c = search needs
-
 returns : tie.Need-returns
 unfolding checksOf
 returns c = simp (lt-ltb maxKeys _ (c .if1 .taken))
@@ -27,33 +24,12 @@ returns-2 : tie.Need-returns-2
 unfolding checksOf
 returns-2 c = simp (few-keys (c .before), c .if2 .taken)
 
-cast-slots-for : tie.Need-cast-slots-for
-cast-slots-for c = search needs
-
-slots-for-requires : tie.Need-slots-for-requires
-slots-for-requires c κs = search needs
-
-cast-slots : tie.Need-cast-slots
-cast-slots c = search needs
-
 returns-3 : tie.Need-returns-3
 unfolding checksOf
 returns-3 c =
     let numbered : tie.Else2 = c .before .before in
     let args = numbered .before .before .args in
     simp (few-keys (numbered .before), numbered .if2 .left, lt-ltb (args .fingerprints) (slotsOf (args .n)) (omega arith))
-
-cast-bucket-starts : tie.Need-cast-bucket-starts
-cast-bucket-starts c = search needs
-
-bucket-starts-requires : tie.Need-bucket-starts-requires
-bucket-starts-requires c κs = search needs
-
-cast-buckets : tie.Need-cast-buckets
-cast-buckets c = search needs
-
-short-requires : tie.Need-short-requires
-short-requires c κs = search needs
 
 -- check 4 alone is left
 last-check : (c : tie.After-short) (fault : Bool) → c .short .result ≡ fault
@@ -81,16 +57,6 @@ pub check-spec : {M : Type 1} → statement M
 check-spec =
     tie.close
     (tie.spec
-    cast-if1
-    returns
-    returns-2
-    cast-slots-for
-    slots-for-requires
-    cast-slots
-    returns-3
-    cast-bucket-starts
-    bucket-starts-requires
-    cast-buckets
-    short-requires
-    returns-4
-    returns-5)
+    (search needs) returns returns-2
+    (search needs) (search needs) (search needs) returns-3
+    (search needs) (search needs) (search needs) (search needs) returns-4 returns-5)

@@ -3,11 +3,8 @@ use borrow.Author.Needs.{needs}
 use Rattle.fuse.proofs.check.short.Statement.{statement}
 use Rattle.fuse.proofs.check.short.Tie as tie
 
-add-result : tie.Need-add-result
-add-result c = search needs
-
 returns : tie.Need-returns
 returns c = rw (c .pre .1, c .pre .2)
 
 pub short-spec : {M : Type 1} → statement M
-short-spec = tie.close (tie.spec add-result returns)
+short-spec = tie.close (tie.spec (search needs) returns)

@@ -10,20 +10,14 @@ use Rattle.fuse.proofs.search.hopeless.Tie as tie
 returns : tie.Need-returns
 returns c = λ e. absurd (let z : _≡_ {A = ℕ} 0 1 = cc in omega arith)
 
-slice-relend-prefix-repeated : tie.Need-slice-relend-prefix-repeated
-slice-relend-prefix-repeated c = search needs
-
 slice-aggregate-repeated : tie.Need-slice-aggregate-repeated
 slice-aggregate-repeated c = sym (length-take-le _ _ (c .before .before .before .before .pre))
 
 repeated-requires : tie.Need-repeated-requires
 repeated-requires c κs = length-take-le _ _ (c .before .before .before .before .pre)
 
-same-length : tie.Need-same-length
-same-length c = search needs
-
 returns-2 : tie.Need-returns-2
 returns-2 c = λ e. sym (c .before .before .repeated .ensures) ∙ e
 
 pub hopeless-spec : {M : Type 1} → statement M
-hopeless-spec = tie.close (tie.spec returns slice-relend-prefix-repeated slice-aggregate-repeated repeated-requires same-length returns-2)
+hopeless-spec = tie.close (tie.spec returns (search needs) slice-aggregate-repeated repeated-requires (search needs) returns-2)

@@ -42,21 +42,6 @@ loop-holds c = (omega arith, omega arith, refl, c .before .before .before .befor
 try-attempt-requires : tie.Need-try-attempt-requires Inv-loop μ-loop
 try-attempt-requires c κs = c .before .before .before .before .before .before .before .loop .inv .3
 
-sub-stuck : tie.Need-sub-stuck Inv-loop μ-loop
-sub-stuck c = omega arith
-
-add-stuck : tie.Need-add-stuck Inv-loop μ-loop
-add-stuck c = omega arith
-
-hopeless-requires : tie.Need-hopeless-requires Inv-loop μ-loop
-hopeless-requires c κs = omega arith
-
-add-i : tie.Need-add-i Inv-loop μ-loop
-add-i c = omega arith
-
-loop-less : tie.Need-loop-less Inv-loop μ-loop
-loop-less c = omega arith
-
 loop-again : tie.Need-loop-again Inv-loop μ-loop
 loop-again c =
     let at : tie.Else2 Inv-loop μ-loop = stuck (c .before .before .before) in
@@ -68,44 +53,8 @@ loop-again c =
       search needs,
     )
 
-same-length : tie.Need-same-length Inv-loop μ-loop
-same-length c = omega arith
-
-same-length-2 : tie.Need-same-length-2 Inv-loop μ-loop
-same-length-2 c = omega arith
-
-same-length-3 : tie.Need-same-length-3 Inv-loop μ-loop
-same-length-3 c = omega arith
-
-same-length-4 : tie.Need-same-length-4 Inv-loop μ-loop
-same-length-4 c = omega arith
-
-same-length-5 : tie.Need-same-length-5 Inv-loop μ-loop
-same-length-5 c = omega arith
-
-same-length-6 : tie.Need-same-length-6 Inv-loop μ-loop
-same-length-6 c = omega arith
-
 returns : tie.Need-returns Inv-loop μ-loop
 returns c = none-left _ _ _ _ (c .before .loop .inv .2) _ _ (c .if1 .taken)
-
-same-length-7 : tie.Need-same-length-7 Inv-loop μ-loop
-same-length-7 c = omega arith
-
-same-length-8 : tie.Need-same-length-8 Inv-loop μ-loop
-same-length-8 c = omega arith
-
-same-length-9 : tie.Need-same-length-9 Inv-loop μ-loop
-same-length-9 c = omega arith
-
-same-length-10 : tie.Need-same-length-10 Inv-loop μ-loop
-same-length-10 c = omega arith
-
-same-length-11 : tie.Need-same-length-11 Inv-loop μ-loop
-same-length-11 c = omega arith
-
-same-length-12 : tie.Need-same-length-12 Inv-loop μ-loop
-same-length-12 c = omega arith
 
 returns-2 : tie.Need-returns-2 Inv-loop μ-loop
 returns-2 c =
@@ -141,34 +90,8 @@ pub search-spec : {M : Type 1} → statement M
 search-spec =
     tie.close
     (tie.spec
-    Inv-loop
-    μ-loop
-    loop-holds
-    try-attempt-requires
-    sub-stuck
-    add-stuck
-    hopeless-requires
-    add-i
-    loop-less
-    loop-again
-    same-length
-    same-length-2
-    same-length-3
-    same-length-4
-    same-length-5
-    same-length-6
-    returns
-    same-length-7
-    same-length-8
-    same-length-9
-    same-length-10
-    same-length-11
-    same-length-12
-    returns-2
-    same-length-13
-    same-length-14
-    same-length-15
-    same-length-16
-    same-length-17
-    same-length-18
-    returns-3)
+    Inv-loop μ-loop loop-holds try-attempt-requires
+    (λ c. omega arith) (λ c. omega arith) (λ c κs. omega arith) (λ c. omega arith) (λ c. omega arith) loop-again
+    (λ c. omega arith) (λ c. omega arith) (λ c. omega arith) (λ c. omega arith) (λ c. omega arith) (λ c. omega arith) returns
+    (λ c. omega arith) (λ c. omega arith) (λ c. omega arith) (λ c. omega arith) (λ c. omega arith) (λ c. omega arith) returns-2 same-length-13
+    same-length-14 same-length-15 same-length-16 same-length-17 same-length-18 returns-3)

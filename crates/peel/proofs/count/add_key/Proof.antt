@@ -5,21 +5,12 @@ use Rattle.peel.proofs.KeyAdded.{touch-start, can-touch, touch-next, ad
 use Rattle.peel.proofs.count.add_key.Statement.{statement}
 use Rattle.peel.proofs.count.add_key.Tie as tie
 
-slots-requires : tie.Need-slots-requires
-slots-requires c κs = search needs
-
-array-read-touch : tie.Need-array-read-touch
-array-read-touch c = search needs
-
 touch-requires : tie.Need-touch-requires
 touch-requires c κs =
     let s : tie.After-slots = c .before .before in
     let can = s .before .before .before .pre in
     let are = s .slots .ensures in
     can-touch can (omega arith) are (omega arith) (touch-start can)
-
-array-read-touch-2 : tie.Need-array-read-touch-2
-array-read-touch-2 c = search needs
 
 touch-requires-2 : tie.Need-touch-requires-2
 touch-requires-2 c κs =
@@ -29,9 +20,6 @@ touch-requires-2 c κs =
     let are = s .slots .ensures in
     let one = touch-next can (omega arith) are (omega arith) (touch-start can) (k .touch .kept .0) (k .touch .kept .1 .0) (k .touch .ensures) in
     can-touch can (omega arith) are (omega arith) one
-
-array-read-touch-3 : tie.Need-array-read-touch-3
-array-read-touch-3 c = search needs
 
 touch-requires-3 : tie.Need-touch-requires-3
 touch-requires-3 c κs =
@@ -43,12 +31,6 @@ touch-requires-3 c κs =
     let one = touch-next can (omega arith) are (omega arith) (touch-start can) (k .touch .kept .0) (k .touch .kept .1 .0) (k .touch .ensures) in
     let two = touch-next can (omega arith) are (omega arith) one (l .touch2 .kept .0) (l .touch2 .kept .1 .0) (l .touch2 .ensures) in
     can-touch can (omega arith) are (omega arith) two
-
-same-length : tie.Need-same-length
-same-length c = search needs
-
-same-length-2 : tie.Need-same-length-2
-same-length-2 c = search needs
 
 returns : tie.Need-returns
 returns c =
@@ -62,13 +44,7 @@ pub add-key-spec : {M : Type 1} → statement M
 add-key-spec =
     tie.close
     (tie.spec
-    slots-requires
-    array-read-touch
-    touch-requires
-    array-read-touch-2
-    touch-requires-2
-    array-read-touch-3
-    touch-requires-3
-    same-length
-    same-length-2
-    returns)
+    (search needs) (search needs) touch-requires
+    (search needs) touch-requires-2
+    (search needs) touch-requires-3
+    (search needs) (search needs) returns)

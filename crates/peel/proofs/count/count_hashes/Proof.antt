@@ -20,12 +20,6 @@ loop-holds c =
     let p = c .before .before .before .pre in
     count-start (p .counts-clear) (p .sums-clear)
 
-mul-add-key : tie.Need-mul-add-key Inv-loop μ-loop
-mul-add-key c = omega arith
-
-shared-slice-read-add-key : tie.Need-shared-slice-read-add-key Inv-loop μ-loop
-shared-slice-read-add-key c = omega arith
-
 add-key-requires : tie.Need-add-key-requires Inv-loop μ-loop
 add-key-requires c κs =
     let t : tie.In-loop Inv-loop μ-loop = c .before .before .before in
@@ -36,12 +30,6 @@ add-key-requires c κs =
       same = sums-long k ∙ sym (counts-long k);
       few = λ slot. omega (arith, counts-few k slot, p .few, t .loop-test);
     }
-
-add-i : tie.Need-add-i Inv-loop μ-loop
-add-i c = omega arith
-
-loop-less : tie.Need-loop-less Inv-loop μ-loop
-loop-less c = omega arith
 
 loop-again : tie.Need-loop-again Inv-loop μ-loop
 loop-again c =
@@ -68,15 +56,6 @@ pub count-hashes-spec : {M : Type 1} → statement M
 count-hashes-spec =
     tie.close
     (tie.spec
-    Inv-loop
-    μ-loop
-    loop-holds
-    mul-add-key
-    shared-slice-read-add-key
-    add-key-requires
-    add-i
-    loop-less
-    loop-again
-    same-length
-    same-length-2
-    returns)
+    Inv-loop μ-loop loop-holds
+    (λ c. omega arith) (λ c. omega arith) add-key-requires
+    (λ c. omega arith) (λ c. omega arith) loop-again same-length same-length-2 returns)

@@ -25,27 +25,12 @@ abbrev μ-loop : tie.MeasureT-loop
 loop-holds : tie.Need-loop-holds Inv-loop μ-loop
 loop-holds c = (omega arith, refl, refl)
 
-sub-i : tie.Need-sub-i Inv-loop μ-loop
-sub-i c = omega arith
-
-mul-fill-one : tie.Need-mul-fill-one Inv-loop μ-loop
-mul-fill-one c = omega arith
-
-shared-slice-read-fill-one : tie.Need-shared-slice-read-fill-one Inv-loop μ-loop
-shared-slice-read-fill-one c = omega arith
-
-shared-slice-read-fill-one-2 : tie.Need-shared-slice-read-fill-one-2 Inv-loop μ-loop
-shared-slice-read-fill-one-2 c = omega arith
-
 fill-one-requires : tie.Need-fill-one-requires Inv-loop μ-loop
 fill-one-requires c κs =
     let q : tie.In-loop Inv-loop μ-loop = c .before .before .before in
     let h : tie.At-loop Inv-loop μ-loop = q .before in
     let p = h .before .before .before .before .pre in
     (rw (h .loop .inv .1) (p .layout), p .positions-are (h .loop .i - 1) (omega (arith, h .loop .inv .0, q .loop-test)))
-
-loop-less : tie.Need-loop-less Inv-loop μ-loop
-loop-less c = omega arith
 
 loop-again : tie.Need-loop-again Inv-loop μ-loop
 loop-again c =
@@ -67,15 +52,6 @@ pub fill8-spec : {M : Type 1} → statement M
 fill8-spec =
     tie.close
     (tie.spec
-    Inv-loop
-    μ-loop
-    loop-holds
-    sub-i
-    mul-fill-one
-    shared-slice-read-fill-one
-    shared-slice-read-fill-one-2
-    fill-one-requires
-    loop-less
-    loop-again
-    same-length
-    returns)
+    Inv-loop μ-loop loop-holds
+    (λ c. omega arith) (λ c. omega arith) (λ c. omega arith) (λ c. omega arith) fill-one-requires
+    (λ c. omega arith) loop-again same-length returns)

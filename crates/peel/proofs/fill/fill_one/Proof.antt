@@ -15,39 +15,6 @@ small s = omega arith
 inside : (s : tie.After-slots) (q : ℕ) → q < 3 → getD (s .slots .result) q 0 < length (s .before .before .args .fingerprints .now)
 inside s q lt = slot-inside (s .before .before .pre .0) (small s) (s .slots .ensures) q lt
 
-slots-requires : tie.Need-slots-requires
-slots-requires c κs = search needs
-
-fingerprint8-requires : tie.Need-fingerprint8-requires
-fingerprint8-requires c κs = search needs
-
-array-read-a : tie.Need-array-read-a
-array-read-a c = search needs
-
-cast-a : tie.Need-cast-a
-cast-a c = search needs
-
-array-read-b : tie.Need-array-read-b
-array-read-b c = search needs
-
-cast-b : tie.Need-cast-b
-cast-b c = search needs
-
-array-read-c : tie.Need-array-read-c
-array-read-c c = search needs
-
-cast-c : tie.Need-cast-c
-cast-c c = search needs
-
-mul-at : tie.Need-mul-at
-mul-at c = search needs
-
-array-read-at : tie.Need-array-read-at
-array-read-at c = search needs
-
-cast-at : tie.Need-cast-at
-cast-at c = search needs
-
 slice-read-fingerprints : tie.Need-slice-read-fingerprints
 slice-read-fingerprints c = inside (c .before .before) 0 (omega arith)
 
@@ -63,9 +30,6 @@ slice-read-fingerprints-4 c = let s : tie.After-slots = c .before .before .befor
 slice-write-fingerprints : tie.Need-slice-write-fingerprints
 slice-write-fingerprints c = let s : tie.After-slots = c .before .before .before .before .before in inside s _ (s .before .before .pre .1)
 
-same-length : tie.Need-same-length
-same-length c = search needs
-
 returns : tie.Need-returns
 returns c =
     let g : tie.After-fingerprint8 = c .before .before .before .before in
@@ -77,21 +41,7 @@ pub fill-one-spec : {M : Type 1} → statement M
 fill-one-spec =
     tie.close
     (tie.spec
-    slots-requires
-    fingerprint8-requires
-    array-read-a
-    cast-a
-    array-read-b
-    cast-b
-    array-read-c
-    cast-c
-    mul-at
-    array-read-at
-    cast-at
-    slice-read-fingerprints
-    slice-read-fingerprints-2
-    slice-read-fingerprints-3
-    slice-read-fingerprints-4
+    (search needs) (search needs) (search needs) (λ c. search needs) (search needs) (λ c. search needs) (search needs) (λ c. search needs) (search needs)
+    (search needs) (λ c. search needs) slice-read-fingerprints slice-read-fingerprints-2 slice-read-fingerprints-3 slice-read-fingerprints-4
     slice-write-fingerprints
-    same-length
-    returns)
+    (search needs) returns)

@@ -13,15 +13,6 @@ use Rattle.peel.proofs.hashes.place.Tie as tie
 small : (b : tie.After-block-bits) → b .before .before .before .before .args .span / b .before .before .before .before .args .segment < 2 ^ maxBits
 small b = let a = b .before .before .before .before .args in lt-of-le-of-lt (div-le-self (a .span) (a .segment)) (omega arith)
 
-div-block-bits : tie.Need-div-block-bits
-div-block-bits c = search needs
-
-block-bits-requires : tie.Need-block-bits-requires
-block-bits-requires c κs = search needs
-
-cast-used : tie.Need-cast-used
-cast-used c = search needs
-
 shl-used : tie.Need-shl-used
 shl-used c = omega (arith, narrow (c .before .before .before .before .pre) (c .block-bits .ensures) (small c))
 
@@ -40,12 +31,6 @@ place-hashes-requires c κs =
     let b : tie.After-block-bits = c .before .before in
     bucket-room (b .before .before .before .before .pre) (b .block-bits .ensures) (small b)
 
-same-length : tie.Need-same-length
-same-length c = search needs
-
-same-length-2 : tie.Need-same-length-2
-same-length-2 c = search needs
-
 returns : tie.Need-returns
 unfolding hashesOf
 returns c = c .before .before .before .before .place-hashes .ensures
@@ -54,13 +39,5 @@ pub place-spec : {M : Type 1} → statement M
 place-spec =
     tie.close
     (tie.spec
-    div-block-bits
-    block-bits-requires
-    cast-used
-    shl-used
-    slice-relend-prefix-place-hashes
-    slice-aggregate-place-hashes
-    place-hashes-requires
-    same-length
-    same-length-2
-    returns)
+    (search needs) (search needs) (search needs) shl-used slice-relend-prefix-place-hashes slice-aggregate-place-hashes place-hashes-requires
+    (search needs) (search needs) returns)

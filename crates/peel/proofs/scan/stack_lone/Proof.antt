@@ -18,30 +18,6 @@ abbrev μ-loop : tie.MeasureT-loop
 loop-holds : tie.Need-loop-holds Inv-loop μ-loop
 loop-holds c = (scan-start _ _, refl)
 
-cast-lone : tie.Need-cast-lone Inv-loop μ-loop
-cast-lone c = omega arith
-
-mul-lone : tie.Need-mul-lone Inv-loop μ-loop
-mul-lone c = omega arith
-
-slice-write-lone : tie.Need-slice-write-lone Inv-loop μ-loop
-slice-write-lone c = omega arith
-
-mul-if1 : tie.Need-mul-if1 Inv-loop μ-loop
-mul-if1 c = omega arith
-
-shared-slice-read-if1 : tie.Need-shared-slice-read-if1 Inv-loop μ-loop
-shared-slice-read-if1 c = omega arith
-
-add-top : tie.Need-add-top Inv-loop μ-loop
-add-top c = omega arith
-
-add-i : tie.Need-add-i Inv-loop μ-loop
-add-i c = omega arith
-
-loop-less : tie.Need-loop-less Inv-loop μ-loop
-loop-less c = omega arith
-
 loop-again : tie.Need-loop-again Inv-loop μ-loop
 loop-again c =
     let t : tie.In-loop Inv-loop μ-loop = c .before .before in
@@ -62,17 +38,6 @@ pub stack-lone-spec : {M : Type 1} → statement M
 stack-lone-spec =
     tie.close
     (tie.spec
-    Inv-loop
-    μ-loop
-    loop-holds
-    cast-lone
-    mul-lone
-    slice-write-lone
-    mul-if1
-    shared-slice-read-if1
-    add-top
-    add-i
-    loop-less
-    loop-again
-    same-length
-    returns)
+    Inv-loop μ-loop loop-holds
+    (λ c. omega arith) (λ c. omega arith) (λ c. omega arith) (λ c. omega arith) (λ c. omega arith) (λ c. omega arith) (λ c. omega arith)
+    (λ c. omega arith) loop-again same-length returns)

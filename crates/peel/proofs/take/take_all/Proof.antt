@@ -35,12 +35,6 @@ room c = let q : tie.In-loop Inv-loop μ-loop = c .before .before .before in tur
 loop-holds : tie.Need-loop-holds Inv-loop μ-loop
 loop-holds c = (turn-start (c .before .before .before .before .before .pre), refl, refl)
 
-sub-top : tie.Need-sub-top Inv-loop μ-loop
-sub-top c = search needs
-
-mul-i : tie.Need-mul-i Inv-loop μ-loop
-mul-i c = search needs
-
 slice-read-i : tie.Need-slice-read-i Inv-loop μ-loop
 slice-read-i c = omega (arith, popped (c .before))
 
@@ -64,9 +58,6 @@ mul-order c = omega (arith, room (c .before))
 
 slice-write-order : tie.Need-slice-write-order Inv-loop μ-loop
 slice-write-order c = omega (arith, room (c .before))
-
-cast-positions : tie.Need-cast-positions Inv-loop μ-loop
-cast-positions c = search needs
 
 slice-write-positions : tie.Need-slice-write-positions Inv-loop μ-loop
 slice-write-positions c = omega (arith, room (c .before))
@@ -97,9 +88,6 @@ loop-again c =
       simp length-set (k .2),
     )
 
-loop-less-2 : tie.Need-loop-less-2 Inv-loop μ-loop
-loop-less-2 c = search needs
-
 loop-again-2 : tie.Need-loop-again-2 Inv-loop μ-loop
 loop-again-2 c =
     let q : tie.In-loop Inv-loop μ-loop = c .before .before .before in
@@ -129,30 +117,7 @@ pub take-all-spec : {M : Type 1} → statement M
 take-all-spec =
     tie.close
     (tie.spec
-    Inv-loop
-    μ-loop
-    loop-holds
-    sub-top
-    mul-i
-    slice-read-i
-    cast-i
-    mul-packed
-    slice-read-packed
-    mul-hash
-    slice-read-hash
-    mul-order
-    slice-write-order
-    cast-positions
-    slice-write-positions
-    add-taken
-    take-key-requires
-    loop-less
-    loop-again
-    loop-less-2
-    loop-again-2
-    same-length
-    same-length-2
-    same-length-3
-    same-length-4
-    same-length-5
-    returns)
+    Inv-loop μ-loop loop-holds
+    (search needs) (search needs) slice-read-i cast-i mul-packed slice-read-packed mul-hash slice-read-hash mul-order slice-write-order
+    (search needs) slice-write-positions add-taken take-key-requires loop-less loop-again
+    (search needs) loop-again-2 same-length same-length-2 same-length-3 same-length-4 same-length-5 returns)

@@ -9,39 +9,6 @@ use Rattle.peel.proofs.take.take_key.Tie as tie
 small : (s : tie.After-slots) → s .before .before .before .before .args .hash < 2 ^ 64
 small s = omega arith
 
-slots-requires : tie.Need-slots-requires
-slots-requires c κs = search needs
-
-add-modulo3 : tie.Need-add-modulo3
-add-modulo3 c = search needs
-
-modulo3-requires : tie.Need-modulo3-requires
-modulo3-requires c κs = search needs
-
-add-modulo3-2 : tie.Need-add-modulo3-2
-add-modulo3-2 c = search needs
-
-modulo3-requires-2 : tie.Need-modulo3-requires-2
-modulo3-requires-2 c κs = search needs
-
-cast-next-slot : tie.Need-cast-next-slot
-cast-next-slot c = search needs
-
-mul-next-slot : tie.Need-mul-next-slot
-mul-next-slot c = search needs
-
-array-read-next-slot : tie.Need-array-read-next-slot
-array-read-next-slot c = search needs
-
-cast-after-slot : tie.Need-cast-after-slot
-cast-after-slot c = search needs
-
-mul-after-slot : tie.Need-mul-after-slot
-mul-after-slot c = search needs
-
-array-read-after-slot : tie.Need-array-read-after-slot
-array-read-after-slot c = search needs
-
 release-requires : tie.Need-release-requires
 release-requires c κs =
     let w : tie.After-modulo32 = c .before .before .before in
@@ -60,15 +27,6 @@ release-requires-2 c κs =
     can-release-after can (small s) (s .slots .ensures) (q .modulo3 .ensures) (w .modulo32 .ensures)
     (r .release .kept .0) (r .release .kept .1 .0) (r .release .kept .1 .1 .0) (r .release .ensures)
 
-same-length : tie.Need-same-length
-same-length c = search needs
-
-same-length-2 : tie.Need-same-length-2
-same-length-2 c = search needs
-
-same-length-3 : tie.Need-same-length-3
-same-length-3 c = search needs
-
 returns : tie.Need-returns
 returns c =
     let v : tie.After-release2 = c .before .before .before .before .before .before in
@@ -84,20 +42,6 @@ pub take-key-spec : {M : Type 1} → statement M
 take-key-spec =
     tie.close
     (tie.spec
-    slots-requires
-    add-modulo3
-    modulo3-requires
-    add-modulo3-2
-    modulo3-requires-2
-    cast-next-slot
-    mul-next-slot
-    array-read-next-slot
-    cast-after-slot
-    mul-after-slot
-    array-read-after-slot
-    release-requires
-    release-requires-2
-    same-length
-    same-length-2
-    same-length-3
-    returns)
+    (search needs) (search needs) (search needs) (search needs) (search needs) (search needs) (search needs) (search needs) (search needs) (search needs)
+    (search needs) release-requires release-requires-2
+    (search needs) (search needs) (search needs) returns)
