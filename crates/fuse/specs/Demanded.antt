@@ -1,5 +1,5 @@
 -- The third demand follows from the outcome: every outcome is of one of four kinds, and each kind meets the demand. Assumes nothing.
-use mathlib.Core.Path.{_≡_, refl, ap, subst}
+use mathlib.Core.Path.{_≡_, refl, ap, subst, _∙_}
 use mathlib.Core.Logic.{_⊎_, inl, inr}
 use mathlib.Core.Bool.{Bool, true, false, cond}
 use mathlib.Core.List.{List, _++_}
@@ -22,6 +22,8 @@ use Rattle.fuse.specs.Build.{Success, success, foundOutcome, repeatedOut
 use Rattle.fuse.specs.FirstFree.{FirstFree, NoneFree, first-is}
 use Rattle.fuse.specs.FreeAttempts.{free-none-stuck, not-free-stuck, repeats-not-free, attempt-fingerprints-length, attempt-accepts, listed-key-yes}
 use Rattle.fuse.specs.Demand.{Demand3}
+use Rattle.fuse.specs.Leaves.{Leaves}
+use Rattle.fuse.specs.LeftAsSaid.{left-as-said}
 
 -- ---- free attempts are those without a stuck set
 
@@ -146,3 +148,11 @@ module _ (w : ℕ) (keys : List ℕ) (first last : ℕ) (m : Memory) where
         let p = passed (length keys) last _ _ _ _ _ _ _ z in
         let from = allowed (p .some) .0 in
         searched-kind (repeats? keys) _ refl z (p .few-keys) from (first-is (free keys) first (last + 1 - first) from))))
+
+    -- so many attempts: the outcome of the definition, and with it the demand and what is left
+    pub outcome-met : (count : ℕ) → last + 1 - first ≡ count → (o : Outcome Success Memory) → o ≡ searchOf w keys last first (last + 1 - first) m
+        → (o ≡ searchOf w keys last first count m) × (Demand3 w keys first last m (o .answer) (o .leaves .fingerprints) × Leaves w keys m (o .answer) (o .leaves))
+    outcome-met count many o e = (
+      e ∙ ap (λ (k : ℕ). searchOf w keys last first k m) many,
+      (demand-met o e, left-as-said w keys m last first (last + 1 - first) o e),
+    )

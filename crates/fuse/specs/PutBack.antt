@@ -17,7 +17,32 @@ use Rattle.fuse.specs.Finish.{CanBuild, endOutcome, clearScratch, Ran, p
 
 -- ---- the parts lent
 
--- Where checks 1 to 4 pass. Check 2 is of `last`, so that what is known of `first` may be asked only then.
+-- Where checks 1 to 4 pass, each part is within what is lent. `slots` and `starts` are as the code computed them.
+pub record Rooms (slots n starts : ℕ) (m : Memory) : Type 0 where
+  pub in-fingerprints : slots ≤ length (m .fingerprints)
+  pub in-lone : slots ≤ length (m .lone)
+  pub in-counts : slots ≤ length (m .counts)
+  pub in-sums : slots ≤ length (m .sums)
+  pub in-positions : n ≤ length (m .positions)
+  pub in-order : n + 1 ≤ length (m .order)
+  pub in-starts : starts ≤ length (m .starts)
+
+pub within-lent : (n last : ℕ) {slots starts : ℕ} → slots ≡ slotsOf n → starts ≡ bucketStartsOf n → (m : Memory) → checked n last m ≡ gives done
+    → Rooms slots n starts m
+within-lent n last slots-are starts-are m e =
+    let p = passed n last _ _ _ _ _ _ _ e in
+    rw (slots-are, starts-are)
+    (record {
+      in-fingerprints = p .in-fingerprints;
+      in-lone = p .in-lone;
+      in-counts = p .in-counts;
+      in-sums = p .in-sums;
+      in-positions = p .in-positions;
+      in-order = p .in-order;
+      in-starts = p .in-starts;
+    })
+
+-- And they can be built on. Check 2 is of `last`, so that what is known of `first` may be asked only then.
 pub parts-can-build : (keys : List ℕ) (first last : ℕ) → (1 ≤ last → (1 ≤ first) × (first ≤ last)) → {slots starts : ℕ}
     → slots ≡ slotsOf (length keys) → starts ≡ bucketStartsOf (length keys) → (m : Memory) → checked (length keys) last m ≡ gives done
     → CanBuild keys first last (take slots (m .fingerprints)) (take slots (m .lone)) (take slots (m .counts)) (take slots (m .sums))

@@ -25,4 +25,4 @@ returns-2 c =
     ∙ answer (c .before .before .before .before) _ (sym (c .before .before .answer2 .given .1))
 
 pub gp-flush-key-spec : {M : Type 1} → statement M
-gp-flush-key-spec = tie.close (tie.spec (search needs) (search needs) (search needs) (search needs) returns returns-2)
+gp-flush-key-spec = tie.close (tie.spec (λ c κs. search needs) (λ c. search needs) (λ c. search needs) (λ c κs. search needs) returns returns-2)

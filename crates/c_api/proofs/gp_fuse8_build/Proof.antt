@@ -80,7 +80,8 @@ pub gp-fuse8-build-spec : {M : Type 1} → statement M
 gp-fuse8-build-spec =
     tie.close
     (tie.spec
-    (search needs) returns
-    (search needs) (search needs) (search needs) (search needs) (search needs) add-result-2
-    (search needs) (search needs) (search needs) (search needs) (search needs) (search needs) (search needs) (search needs) returns-2
-    (search needs) (search needs) (search needs) (search needs) (search needs) (search needs) (search needs) returns-3)
+    (λ c. search needs) returns
+    (λ c κs. search needs) (λ c. search needs) (λ c κs. search needs) (λ c. search needs) (λ c κs. search needs) add-result-2
+    (λ c. search needs) (λ c. search needs) (λ c. search needs) (λ c. search needs) (λ c. search needs) (λ c. search needs) (λ c. search needs)
+    (λ c. search needs) returns-2
+    (λ c. search needs) (λ c. search needs) (λ c. search needs) (λ c. search needs) (λ c. search needs) (λ c. search needs) (λ c. search needs) returns-3)

@@ -12,4 +12,4 @@ unfolding entries
 returns c = let n = c .before .args .n in subst (Capacity n) (sym (c .wide .ensures)) (entry n (c .before .pre))
 
 pub capacity-spec : {M : Type 1} → statement M
-capacity-spec = tie.close (tie.spec (search needs) (search needs) (search needs) returns)
+capacity-spec = tie.close (tie.spec (λ c. search needs) (λ c. search needs) (λ c κs. search needs) returns)

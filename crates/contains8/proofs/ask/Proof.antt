@@ -89,12 +89,13 @@ pub ask-spec : {M : Type 1} → statement M
 ask-spec =
     tie.close
     (tie.spec
-    (search needs) (search needs) (search needs) (search needs) (search needs) (search needs) (search needs) (search needs) returns
-    (search needs) (search needs) returns-2
-    (search needs) returns-3
-    (search needs) (search needs) (search needs) (search needs) returns-4
-    (search needs) returns-5
-    (search needs) returns-6
-    (search needs) returns-7
-    (search needs) (λ c. search needs) (search needs) (λ c. search needs) (search needs) (λ c. search needs) shared-slice-read-if8 shared-slice-read-if8-2
-    shared-slice-read-if8-3 returns-8 returns-9)
+    (λ c κs. search needs) (λ c κs. search needs) (λ c κs. search needs) (λ c. search needs) (λ c. search needs) (λ c. search needs) (λ c. search needs)
+    (λ c κs. search needs) returns
+    (λ c. search needs) (λ c κs. search needs) returns-2
+    (λ c κs. search needs) returns-3
+    (λ c. search needs) (λ c. search needs) (λ c. search needs) (λ c κs. search needs) returns-4
+    (λ c κs. search needs) returns-5
+    (λ c κs. search needs) returns-6
+    (λ c κs. search needs) returns-7
+    (λ c. search needs) (λ c. search needs) (λ c. search needs) (λ c. search needs) (λ c. search needs) (λ c. search needs) shared-slice-read-if8
+    shared-slice-read-if8-2 shared-slice-read-if8-3 returns-8 returns-9)

@@ -25,4 +25,4 @@ returns-3 : tie.Need-returns-3
 returns-3 c = c .refusal .ensures ∙ neither-told 8 _ _ _ (c .before .before .ask .ensures) (c .before .match .rest .0 .1) (c .before .match .rest .1)
 
 pub contains-spec : {M : Type 1} → statement M
-contains-spec = tie.close (tie.spec (search needs) (search needs) returns returns-2 returns-3)
+contains-spec = tie.close (tie.spec (λ c κs. search needs) (λ c κs. search needs) returns returns-2 returns-3)

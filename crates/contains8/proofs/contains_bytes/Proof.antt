@@ -12,4 +12,4 @@ returns-2 : tie.Need-returns-2
 returns-2 c = c .contains .ensures ∙ long 8 _ _ _ (c .before .before .if1 .left) (c .before .parse .ensures)
 
 pub contains-bytes-spec : {M : Type 1} → statement M
-contains-bytes-spec = tie.close (tie.spec returns (search needs) (search needs) returns-2)
+contains-bytes-spec = tie.close (tie.spec returns (λ c κs. search needs) (λ c κs. search needs) returns-2)

@@ -13,4 +13,4 @@ returns-2 : tie.Need-returns-2
 returns-2 c = c .ask .ensures ∙ ap told (long 8 _ _ _ (c .before .before .if1 .left) (c .before .parse .ensures))
 
 pub contains-told-spec : {M : Type 1} → statement M
-contains-told-spec = tie.close (tie.spec (search needs) returns (search needs) (search needs) returns-2)
+contains-told-spec = tie.close (tie.spec (λ c κs. search needs) returns (λ c κs. search needs) (λ c κs. search needs) returns-2)

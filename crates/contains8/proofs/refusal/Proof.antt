@@ -21,4 +21,4 @@ returns-2 : tie.Need-returns-2
 returns-2 c = answer (c .before .before .before) _ (sym (c .before .checked .given .1))
 
 pub refusal-spec : {M : Type 1} → statement M
-refusal-spec = tie.close (tie.spec (search needs) (search needs) (search needs) returns returns-2)
+refusal-spec = tie.close (tie.spec (λ c κs. search needs) (λ c. search needs) (λ c. search needs) returns returns-2)

@@ -9,4 +9,4 @@ returns : tie.Need-returns
 returns c = c .code .ensures ∙ ap told (c .before .refusal .ensures)
 
 pub refused-spec : {M : Type 1} → statement M
-refused-spec = tie.close (tie.spec (search needs) (search needs) returns)
+refused-spec = tie.close (tie.spec (λ c κs. search needs) (λ c κs. search needs) returns)

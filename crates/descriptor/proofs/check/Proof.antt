@@ -84,4 +84,4 @@ returns-6 c =
     last-check (c .before) false (le-ltb longest (fingerprints (c .before)) (omega arith))
 
 pub check-spec : {M : Type 1} → statement M
-check-spec = tie.close (tie.spec (search needs) returns sub-if2 returns-2 returns-3 returns-4 mul-if5 sub-if5 returns-5 returns-6)
+check-spec = tie.close (tie.spec (λ c κs. search needs) returns sub-if2 returns-2 returns-3 returns-4 mul-if5 sub-if5 returns-5 returns-6)

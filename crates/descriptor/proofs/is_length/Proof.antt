@@ -17,4 +17,4 @@ returns-3 : tie.Need-returns-3
 returns-3 c = length-test (c .before .before .args .size) (c .before .if1 .left) (c .if2 .left)
 
 pub is-length-spec : {M : Type 1} → statement M
-is-length-spec = tie.close (tie.spec returns returns-2 (search needs) returns-3)
+is-length-spec = tie.close (tie.spec returns returns-2 (λ c. search needs) returns-3)

@@ -36,4 +36,4 @@ put-spec =
     tie.close
     (tie.spec
     Inv-loop μ-loop
-    (λ c. search needs) (search needs) (search needs) (search needs) (search needs) (search needs) loop-again same-length returns)
+    (λ c. search needs) (λ c. search needs) (λ c. search needs) (λ c. search needs) (λ c. search needs) (λ c. search needs) loop-again same-length returns)

@@ -36,4 +36,8 @@ returns-3 : tie.Need-returns-3
 returns-3 c = outcome-of (c .before .before .before) _ (sym (c .before .checked .given .1))
 
 pub write-spec : {M : Type 1} → statement M
-write-spec = tie.close (tie.spec returns (search needs) (search needs) (search needs) (search needs) (search needs) returns-2 returns-3)
+write-spec =
+    tie.close
+    (tie.spec
+    returns
+    (λ c κs. search needs) (λ c. search needs) (λ c κs. search needs) (λ c. search needs) (λ c. search needs) returns-2 returns-3)

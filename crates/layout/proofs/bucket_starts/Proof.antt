@@ -38,4 +38,4 @@ returns-2 c =
     c .power-above2 .ensures ∙ starts n _ (b .before .layout-at .ensures) (b .layout-at2 .ensures) (max-eq-left (c .before .if1 .left))
 
 pub bucket-starts-spec : {M : Type 1} → statement M
-bucket-starts-spec = tie.close (tie.spec (search needs) (search needs) power-above-requires power-above-requires-2 returns returns-2)
+bucket-starts-spec = tie.close (tie.spec (λ c κs. search needs) (λ c κs. search needs) power-above-requires power-above-requires-2 returns returns-2)

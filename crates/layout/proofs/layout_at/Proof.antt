@@ -44,4 +44,4 @@ returns-3 c =
     c .with .ensures ∙ ap halvedOf (p .plain .ensures) ∙ simp (lt-ltb 4 (args .n) (omega arith), eq-eqb (args .attempt % 4) 2 (b .if2 .left))
 
 pub layout-at-spec : {M : Type 1} → statement M
-layout-at-spec = tie.close (tie.spec (search needs) returns returns-2 mul-with add-with with-requires returns-3)
+layout-at-spec = tie.close (tie.spec (λ c κs. search needs) returns returns-2 mul-with add-with with-requires returns-3)

@@ -22,4 +22,4 @@ returns c =
     c .with .ensures ∙ plain-parts (b .before .segment-length .ensures) (b .capacity .ensures) (c .before .count .ensures)
 
 pub plain-spec : {M : Type 1} → statement M
-plain-spec = tie.close (tie.spec (search needs) (search needs) count-requires with-requires returns)
+plain-spec = tie.close (tie.spec (λ c κs. search needs) (λ c κs. search needs) count-requires with-requires returns)

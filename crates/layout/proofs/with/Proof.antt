@@ -10,4 +10,4 @@ add-t4 : tie.Need-add-t4
 add-t4 c = omega (arith, mul-le-mul-left (c .args .k + 2) (c .pre .0))
 
 pub with-spec : {M : Type 1} → statement M
-with-spec = tie.close (tie.spec (search needs) add-t4 (search needs) (search needs))
+with-spec = tie.close (tie.spec (λ c. search needs) add-t4 (λ c. search needs) (λ c. search needs))

@@ -47,7 +47,7 @@ pub run-spec : {M : Type 1} → statement M
 run-spec =
     tie.close
     (tie.spec
-    (search needs) slice-aggregate-place place-requires
-    (search needs) slice-aggregate-count-hashes count-hashes-requires
-    (search needs) take-all-requires
-    (search needs) (search needs) (search needs) (search needs) (search needs) (search needs) returns)
+    (λ c. search needs) slice-aggregate-place place-requires
+    (λ c. search needs) slice-aggregate-count-hashes count-hashes-requires
+    (λ c κs. search needs) take-all-requires
+    (λ c. search needs) (λ c. search needs) (λ c. search needs) (λ c. search needs) (λ c. search needs) (λ c. search needs) returns)

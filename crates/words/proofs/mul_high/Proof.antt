@@ -34,4 +34,7 @@ returns c = top-product (2 ^ 32) (c .args .hash) (c .args .n) (pow-pos 32)
 
 pub mul-high-spec : {M : Type 1} → statement M
 mul-high-spec =
-    tie.close (tie.spec (search needs) (search needs) (search needs) mul-low-product (search needs) mul-high-product add-result cast-result returns)
+    tie.close
+    (tie.spec
+    (λ c. search needs) (λ c. search needs) (λ c. search needs) mul-low-product
+    (λ c. search needs) mul-high-product add-result cast-result returns)

@@ -23,4 +23,5 @@ returns c =
     ∙ low-product (2 ^ 32) (c .before .before .args .a) (c .before .before .args .b) (c .before .wrapping-add-u64 .result) (c .before .wrapping-add-u64 .ensures)
 
 pub wrapping-mul-spec : {M : Type 1} → statement M
-wrapping-mul-spec = tie.close (tie.spec mul-wrapping-add-u64 mul-wrapping-add-u64-2 (search needs) mul-wrapping-add-u64-3 (search needs) returns)
+wrapping-mul-spec =
+    tie.close (tie.spec mul-wrapping-add-u64 mul-wrapping-add-u64-2 (λ c κs. search needs) mul-wrapping-add-u64-3 (λ c κs. search needs) returns)

@@ -11,4 +11,4 @@ unfolding fingerprintOf xorshift
 returns c = refl
 
 pub fingerprint8-spec : {M : Type 1} → statement M
-fingerprint8-spec = tie.close (tie.spec (search needs) returns)
+fingerprint8-spec = tie.close (tie.spec (λ c. search needs) returns)

@@ -10,4 +10,4 @@ unfolding hashOf
 returns c = c .mix64 .ensures ∙ ap mix64Of (c .before .wrapping-add-u64 .ensures)
 
 pub mix-spec : {M : Type 1} → statement M
-mix-spec = tie.close (tie.spec (search needs) (search needs) returns)
+mix-spec = tie.close (tie.spec (λ c κs. search needs) (λ c κs. search needs) returns)

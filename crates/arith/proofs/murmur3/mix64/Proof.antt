@@ -14,4 +14,4 @@ returns c =
     (c .wrapping-mul2 .ensures ∙ ap (λ (a : ℕ). times 0xc4ceb9fe1a85ec53 (xorshift 33 a)) (c .before .wrapping-mul .ensures))
 
 pub mix64-spec : {M : Type 1} → statement M
-mix64-spec = tie.close (tie.spec (search needs) (search needs) returns)
+mix64-spec = tie.close (tie.spec (λ c κs. search needs) (λ c κs. search needs) returns)

@@ -30,4 +30,4 @@ returns c =
     slots-are (omega arith) (rw (after, next, first))
 
 pub slots-spec : {M : Type 1} → statement M
-slots-spec = tie.close (tie.spec cast-upper cast-lower (search needs) (search needs) (search needs) returns)
+slots-spec = tie.close (tie.spec cast-upper cast-lower (λ c κs. search needs) (λ c κs. search needs) (λ c κs. search needs) returns)

@@ -14,4 +14,4 @@ returns c =
     (c .wrapping-mul2 .ensures ∙ ap (λ (a : ℕ). times 0x94d049bb133111eb (xorshift 27 a)) (c .before .wrapping-mul .ensures))
 
 pub output-spec : {M : Type 1} → statement M
-output-spec = tie.close (tie.spec (search needs) (search needs) returns)
+output-spec = tie.close (tie.spec (λ c κs. search needs) (λ c κs. search needs) returns)

@@ -20,4 +20,4 @@ returns c =
     ∙ sym (state-closed i))
 
 pub seed-spec : {M : Type 1} → statement M
-seed-spec = tie.close (tie.spec (search needs) (search needs) (search needs) returns)
+seed-spec = tie.close (tie.spec (λ c κs. search needs) (λ c κs. search needs) (λ c κs. search needs) returns)

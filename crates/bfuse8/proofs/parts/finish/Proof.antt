@@ -72,8 +72,8 @@ pub finish-spec : {M : Type 1} → statement M
 finish-spec =
     tie.close
     (tie.spec
-    (search needs) slice-aggregate-repeated repeated-requires
-    (search needs) returns
-    (search needs) (search needs) (search needs) returns-2
-    (search needs) (search needs) (search needs) fill8-requires
-    (search needs) (search needs) (search needs) (search needs) returns-3)
+    (λ c. search needs) slice-aggregate-repeated repeated-requires
+    (λ c. search needs) returns
+    (λ c κs. search needs) (λ c. search needs) (λ c. search needs) returns-2
+    (λ c. search needs) (λ c κs. search needs) (λ c κs. search needs) fill8-requires
+    (λ c. search needs) (λ c κs. search needs) (λ c. search needs) (λ c. search needs) returns-3)

@@ -70,5 +70,6 @@ pub on-parts-spec : {M : Type 1} → statement M
 on-parts-spec =
     tie.close
     (tie.spec
-    (search needs) finish-requires
-    (search needs) (search needs) (search needs) (search needs) (search needs) (search needs) (search needs) (search needs) returns)
+    (λ c κs. search needs) finish-requires
+    (λ c κs. search needs) (λ c. search needs) (λ c. search needs) (λ c. search needs) (λ c. search needs) (λ c. search needs) (λ c. search needs)
+    (λ c. search needs) returns)

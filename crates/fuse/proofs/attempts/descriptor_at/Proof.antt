@@ -19,4 +19,4 @@ unfolding descriptorAt
 returns c = ap₂ describe (c .before .seed .ensures) (c .before .before .layout-at .ensures)
 
 pub descriptor-at-spec : {M : Type 1} → statement M
-descriptor-at-spec = tie.close (tie.spec (search needs) (search needs) sub-t5 returns)
+descriptor-at-spec = tie.close (tie.spec (λ c κs. search needs) (λ c κs. search needs) sub-t5 returns)

@@ -9,4 +9,4 @@ returns : tie.Need-returns
 returns c = ap (λ (layout : Layout). layout .«array_length») (c .plain .ensures)
 
 pub slots-for-spec : {M : Type 1} → statement M
-slots-for-spec = tie.close (tie.spec (search needs) returns)
+slots-for-spec = tie.close (tie.spec (λ c κs. search needs) returns)

@@ -41,5 +41,5 @@ pub try-attempt-spec : {M : Type 1} → statement M
 try-attempt-spec =
     tie.close
     (tie.spec
-    (search needs) (search needs) (search needs) (search needs) (search needs) run-requires
-    (search needs) (search needs) (search needs) (search needs) (search needs) (search needs) returns)
+    (λ c. search needs) (λ c κs. search needs) (λ c κs. search needs) (λ c κs. search needs) (λ c κs. search needs) run-requires
+    (λ c. search needs) (λ c. search needs) (λ c. search needs) (λ c. search needs) (λ c. search needs) (λ c. search needs) returns)

@@ -57,6 +57,6 @@ pub check-spec : {M : Type 1} → statement M
 check-spec =
     tie.close
     (tie.spec
-    (search needs) returns returns-2
-    (search needs) (search needs) (search needs) returns-3
-    (search needs) (search needs) (search needs) (search needs) returns-4 returns-5)
+    (λ c. search needs) returns returns-2
+    (λ c. search needs) (λ c κs. search needs) (λ c. search needs) returns-3
+    (λ c. search needs) (λ c κs. search needs) (λ c. search needs) (λ c κs. search needs) returns-4 returns-5)

@@ -7,4 +7,4 @@ returns : tie.Need-returns
 returns c = rw (c .pre .1, c .pre .2)
 
 pub short-spec : {M : Type 1} → statement M
-short-spec = tie.close (tie.spec (search needs) returns)
+short-spec = tie.close (tie.spec (λ c. search needs) returns)

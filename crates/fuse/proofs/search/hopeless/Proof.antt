@@ -20,4 +20,4 @@ returns-2 : tie.Need-returns-2
 returns-2 c = λ e. sym (c .before .before .repeated .ensures) ∙ e
 
 pub hopeless-spec : {M : Type 1} → statement M
-hopeless-spec = tie.close (tie.spec returns (search needs) slice-aggregate-repeated repeated-requires (search needs) returns-2)
+hopeless-spec = tie.close (tie.spec returns (λ c. search needs) slice-aggregate-repeated repeated-requires (λ c. search needs) returns-2)

@@ -44,7 +44,7 @@ pub add-key-spec : {M : Type 1} → statement M
 add-key-spec =
     tie.close
     (tie.spec
-    (search needs) (search needs) touch-requires
-    (search needs) touch-requires-2
-    (search needs) touch-requires-3
-    (search needs) (search needs) returns)
+    (λ c κs. search needs) (λ c. search needs) touch-requires
+    (λ c. search needs) touch-requires-2
+    (λ c. search needs) touch-requires-3
+    (λ c. search needs) (λ c. search needs) returns)

@@ -41,7 +41,7 @@ pub fill-one-spec : {M : Type 1} → statement M
 fill-one-spec =
     tie.close
     (tie.spec
-    (search needs) (search needs) (search needs) (λ c. search needs) (search needs) (λ c. search needs) (search needs) (λ c. search needs) (search needs)
-    (search needs) (λ c. search needs) slice-read-fingerprints slice-read-fingerprints-2 slice-read-fingerprints-3 slice-read-fingerprints-4
-    slice-write-fingerprints
-    (search needs) returns)
+    (λ c κs. search needs) (λ c κs. search needs) (λ c. search needs) (λ c. search needs) (λ c. search needs) (λ c. search needs) (λ c. search needs)
+    (λ c. search needs) (λ c. search needs) (λ c. search needs) (λ c. search needs) slice-read-fingerprints slice-read-fingerprints-2
+    slice-read-fingerprints-3 slice-read-fingerprints-4 slice-write-fingerprints
+    (λ c. search needs) returns)

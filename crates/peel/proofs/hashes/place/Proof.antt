@@ -39,5 +39,6 @@ pub place-spec : {M : Type 1} → statement M
 place-spec =
     tie.close
     (tie.spec
-    (search needs) (search needs) (search needs) shl-used slice-relend-prefix-place-hashes slice-aggregate-place-hashes place-hashes-requires
-    (search needs) (search needs) returns)
+    (λ c. search needs) (λ c κs. search needs) (λ c. search needs) shl-used slice-relend-prefix-place-hashes slice-aggregate-place-hashes
+    place-hashes-requires
+    (λ c. search needs) (λ c. search needs) returns)

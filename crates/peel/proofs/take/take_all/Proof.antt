@@ -118,6 +118,6 @@ take-all-spec =
     tie.close
     (tie.spec
     Inv-loop μ-loop loop-holds
-    (search needs) (search needs) slice-read-i cast-i mul-packed slice-read-packed mul-hash slice-read-hash mul-order slice-write-order
-    (search needs) slice-write-positions add-taken take-key-requires loop-less loop-again
-    (search needs) loop-again-2 same-length same-length-2 same-length-3 same-length-4 same-length-5 returns)
+    (λ c. search needs) (λ c. search needs) slice-read-i cast-i mul-packed slice-read-packed mul-hash slice-read-hash mul-order slice-write-order
+    (λ c. search needs) slice-write-positions add-taken take-key-requires loop-less loop-again
+    (λ c. search needs) loop-again-2 same-length same-length-2 same-length-3 same-length-4 same-length-5 returns)

@@ -42,6 +42,6 @@ pub take-key-spec : {M : Type 1} → statement M
 take-key-spec =
     tie.close
     (tie.spec
-    (search needs) (search needs) (search needs) (search needs) (search needs) (search needs) (search needs) (search needs) (search needs) (search needs)
-    (search needs) release-requires release-requires-2
-    (search needs) (search needs) (search needs) returns)
+    (λ c κs. search needs) (λ c. search needs) (λ c κs. search needs) (λ c. search needs) (λ c κs. search needs) (λ c. search needs) (λ c. search needs)
+    (λ c. search needs) (λ c. search needs) (λ c. search needs) (λ c. search needs) release-requires release-requires-2
+    (λ c. search needs) (λ c. search needs) (λ c. search needs) returns)
