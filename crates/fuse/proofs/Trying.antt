@@ -7,7 +7,7 @@ use lib.ListN.{length, take, replicate, length-replicate, replicate-append-repli
 use lib.Seq.{take-at}
 use Rattle.capacity.specs.Capacity.{maxKeys}
 use Rattle.descriptor.specs.declared.Descriptor.{Descriptor}
-use Rattle.layout.specs.Layout.{layoutOf, slotsOf, bucketStartsOf}
+use Rattle.layout.specs.Layout.{layoutOf, slotCountOf, bucketStartsOf}
 use Rattle.layout.specs.BucketStarts.{starts-above, starts-cover}
 use Rattle.stuck.specs.Stuck.{Pick}
 use Rattle.peel.specs.Requires.{StartsFit, CanRun}
@@ -36,7 +36,7 @@ front-clear k n h =
 module _ {keys lone counts sums positions order starts : List ℕ} (can : CanTry keys lone counts sums positions order starts) (number : ℕ)
     {counts′ sums′ order′ : List ℕ} (counts-clear : counts′ ≡ replicate (length counts) 0) (sums-clear : sums′ ≡ replicate (length sums) 0)
     (order-clear : order′ ≡ replicate (length order) 0) where
-  counts-length : length counts′ ≡ slotsOf (length keys)
+  counts-length : length counts′ ≡ slotCountOf (length keys)
   counts-length = ap length counts-clear ∙ length-replicate (length counts) 0 ∙ can .exact .counts-length
 
   can-run-as : let d = descriptorAt (length keys) number in

@@ -7,7 +7,7 @@ use lib.ListN.{length}
 use lib.Dec.{eqb}
 use Rattle.arith.specs.SplitMix64.{seedOf}
 use Rattle.layout.specs.declared.Layout.{Layout}
-use Rattle.layout.specs.Layout.{layoutOf, slotsOf}
+use Rattle.layout.specs.Layout.{layoutOf, slotCountOf}
 use Rattle.descriptor.specs.declared.Descriptor.{Descriptor}
 use Rattle.stuck.specs.Stuck.{Slots, Pick}
 use Rattle.peel.specs.Picks.{slotsOfKeys, picksOfKeys, fingerprintsOf}
@@ -40,7 +40,7 @@ slotsAt keys i =
 unfoldable pub picksAt : List ℕ → ℕ → List Pick
 picksAt keys i =
     let d = descriptorAt (length keys) i in
-    picksOfKeys (d .«segment_length») (d .«segment_length_mask») (d .«segment_count_length») (slotsOf (length keys)) (d .seed) keys
+    picksOfKeys (d .«segment_length») (d .«segment_length_mask») (d .«segment_count_length») (slotCountOf (length keys)) (d .seed) keys
 
 -- "the attempt succeeded if n keys were taken". (Exactly then it has no stuck set: FreeAttempts.antt.)
 unfoldable pub free : List ℕ → ℕ → Bool
@@ -50,4 +50,4 @@ free keys i = eqb (length (picksAt keys i)) (length keys)
 unfoldable pub fingerprintsAt : (w : ℕ) → List ℕ → ℕ → List ℕ
 fingerprintsAt w keys i =
     let d = descriptorAt (length keys) i in
-    fingerprintsOf w (d .«segment_length») (d .«segment_length_mask») (d .«segment_count_length») (slotsOf (length keys)) (d .seed) keys
+    fingerprintsOf w (d .«segment_length») (d .«segment_length_mask») (d .«segment_count_length») (slotCountOf (length keys)) (d .seed) keys

@@ -7,7 +7,7 @@ use lib.ListN.{length}
 use Rattle.answers.specs.Answers.{refuses, gives, Outcome, outcome}
 use Rattle.answers.specs.Checks.{unlessRefused}
 use Rattle.descriptor.specs.declared.Descriptor.{Descriptor}
-use Rattle.layout.specs.Layout.{slotsOf}
+use Rattle.layout.specs.Layout.{slotCountOf}
 use Rattle.repeats.specs.Repeats.{repeats?}
 use Rattle.fuse.specs.Attempts.{descriptorAt, free, fingerprintsAt}
 use Rattle.fuse.specs.Memory.{Memory, checked, begins, zeroed, scratchZeroed}
@@ -30,13 +30,13 @@ firstFree free first (suc count) = cond (free first) first (firstFree free (suc 
 abbrev pub stuckOutcome : List ℕ → Memory → Outcome Success Memory
 stuckOutcome keys m =
     let n = length keys in
-    outcome (refuses 6) (scratchZeroed n m (zeroed (slotsOf n) (m .fingerprints)))
+    outcome (refuses 6) (scratchZeroed n m (zeroed (slotCountOf n) (m .fingerprints)))
 
 -- attempt i was the first free one: its A fingerprints are written, the scratch is zeroed
 abbrev pub builtOutcome : (w : ℕ) → List ℕ → ℕ → Memory → Outcome Success Memory
 builtOutcome w keys i m =
     let n = length keys in
-    outcome (gives (success (descriptorAt n i) (slotsOf n) i)) (scratchZeroed n m (begins (slotsOf n) (fingerprintsAt w keys i) (m .fingerprints)))
+    outcome (gives (success (descriptorAt n i) (slotCountOf n) i)) (scratchZeroed n m (begins (slotCountOf n) (fingerprintsAt w keys i) (m .fingerprints)))
 
 abbrev pub foundOutcome : (w : ℕ) → List ℕ → (found : ℕ) → Memory → Outcome Success Memory
 foundOutcome w keys zero m = stuckOutcome keys m

@@ -11,7 +11,7 @@ use Rattle.answers.specs.Answers.{Answer, refuses, gives, Outcome}
 use Rattle.answers.specs.Checks.{Done, done, unlessRefused}
 use Rattle.arith.specs.SeedBound.{seed-lt}
 use Rattle.capacity.specs.Capacity.{maxKeys}
-use Rattle.layout.specs.Layout.{slotsOf}
+use Rattle.layout.specs.Layout.{slotCountOf}
 use Rattle.layout.specs.Fits.{layout-fits}
 use Rattle.descriptor.specs.declared.Descriptor.{Descriptor}
 use Rattle.descriptor.specs.Descriptor.{descriptorSize, descriptorOf, encode}
@@ -50,7 +50,7 @@ attempt-sized {n} i few =
 
 module _ (w : ℕ) (keys : List ℕ) (m : Memory) where
   abbrev Named : Answer Success → Type 0
-  Named answer = (s : Success) → answer ≡ gives s → s ≡ success (descriptorAt (length keys) (s .attempt)) (slotsOf (length keys)) (s .attempt)
+  Named answer = (s : Success) → answer ≡ gives s → s ≡ success (descriptorAt (length keys) (s .attempt)) (slotCountOf (length keys)) (s .attempt)
 
   never : {X : Type 0} → _≡_ {A = ℕ} 0 1 → X
   never z = absurd (omega arith)
@@ -58,7 +58,7 @@ module _ (w : ℕ) (keys : List ℕ) (m : Memory) where
   found-named : (found : ℕ) → Named (foundOutcome w keys found m .answer)
   found-named zero s e = never (cc)
   found-named (suc k) s e =
-      let z : success (descriptorAt (length keys) (suc k)) (slotsOf (length keys)) (suc k) ≡ s = cc in
+      let z : success (descriptorAt (length keys) (suc k)) (slotCountOf (length keys)) (suc k) ≡ s = cc in
       rw (← z) refl
 
   searched-named : (repeated : Bool) (found : ℕ) → Named (cond repeated (repeatedOutcome keys m) (foundOutcome w keys found m) .answer)
@@ -66,12 +66,12 @@ module _ (w : ℕ) (keys : List ℕ) (m : Memory) where
   searched-named false found s e = found-named found s e
 
   checked-named : (checks : Answer Done) (o : Outcome Success Memory) → Named (o .answer) → (s : Success) → unlessRefused checks m o .answer ≡ gives s
-      → (checks ≡ gives done) × (s ≡ success (descriptorAt (length keys) (s .attempt)) (slotsOf (length keys)) (s .attempt))
+      → (checks ≡ gives done) × (s ≡ success (descriptorAt (length keys) (s .attempt)) (slotCountOf (length keys)) (s .attempt))
   checked-named (refuses k) o named s e = never (cc)
   checked-named (gives done) o named s e = (refl, named s e)
 
   pub success-is : (limit first count : ℕ) (o : Outcome Success Memory) → o ≡ searchOf w keys limit first count m → (s : Success) → o .answer ≡ gives s
-      → (length keys ≤ maxKeys) × (s ≡ success (descriptorAt (length keys) (s .attempt)) (slotsOf (length keys)) (s .attempt))
+      → (length keys ≤ maxKeys) × (s ≡ success (descriptorAt (length keys) (s .attempt)) (slotCountOf (length keys)) (s .attempt))
   unfolding searchOf
   success-is limit first count o e s a =
       let named = checked-named (checked (length keys) limit m) _ (searched-named (repeats? keys) (firstFree (free keys) first count)) s

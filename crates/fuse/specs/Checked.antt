@@ -9,7 +9,7 @@ use Rattle.answers.specs.Answers.{Answer, refuses, gives}
 use Rattle.answers.specs.Checks.{Done, done, refuseIf, _then_}
 use Rattle.answers.specs.Passed.{no-fault, passed-first}
 use Rattle.capacity.specs.Capacity.{maxKeys}
-use Rattle.layout.specs.Layout.{slotsOf, bucketStartsOf}
+use Rattle.layout.specs.Layout.{slotCountOf, bucketStartsOf}
 use Rattle.fuse.specs.Attempts.{maxAttempts}
 use Rattle.fuse.specs.Memory.{short?, checksOf}
 
@@ -17,10 +17,10 @@ pub record Passed (n limit fingerprints lone counts sums positions order starts 
   pub few-keys : n ≤ maxKeys
   pub some : 1 ≤ limit
   pub most : limit ≤ maxAttempts
-  pub in-fingerprints : slotsOf n ≤ fingerprints
-  pub in-lone : slotsOf n ≤ lone
-  pub in-counts : slotsOf n ≤ counts
-  pub in-sums : slotsOf n ≤ sums
+  pub in-fingerprints : slotCountOf n ≤ fingerprints
+  pub in-lone : slotCountOf n ≤ lone
+  pub in-counts : slotCountOf n ≤ counts
+  pub in-sums : slotCountOf n ≤ sums
   pub in-positions : n ≤ positions
   pub in-order : n + 1 ≤ order
   pub in-starts : bucketStartsOf n ≤ starts
@@ -47,29 +47,29 @@ module _ (n limit fingerprints lone counts sums positions order starts : ℕ) wh
   up-to-four =
       refused-up-to 4 (ltb maxKeys n) 1 _ (omega arith)
       (refused-up-to 4 (eqb limit 0 || ltb maxAttempts limit) 2 _ (omega arith)
-      (refused-up-to 4 (ltb fingerprints (slotsOf n)) 3 _ (omega arith) (last-number (short? n lone counts sums positions order starts) 4)))
+      (refused-up-to 4 (ltb fingerprints (slotCountOf n)) 3 _ (omega arith) (last-number (short? n lone counts sums positions order starts) 4)))
 
   pub passed : checks ≡ gives done → Passed n limit fingerprints lone counts sums positions order starts
   unfolding checksOf
   passed e =
       let one = passed-first (ltb maxKeys n) 1 _ done e in
       let two = passed-first (eqb limit 0 || ltb maxAttempts limit) 2 _ done (one .1) in
-      let three = passed-first (ltb fingerprints (slotsOf n)) 3 _ done (two .1) in
+      let three = passed-first (ltb fingerprints (slotCountOf n)) 3 _ done (two .1) in
       let four = no-fault (short? n lone counts sums positions order starts) 4 (three .1) in
       let in-range = neither (eqb limit 0) (ltb maxAttempts limit) (two .0) in
       let upto-order = neither _ (ltb starts (bucketStartsOf n)) four in
       let upto-positions = neither _ (ltb order (n + 1)) (upto-order .0) in
       let upto-sums = neither _ (ltb positions n) (upto-positions .0) in
-      let upto-counts = neither _ (ltb sums (slotsOf n)) (upto-sums .0) in
-      let first-two = neither (ltb lone (slotsOf n)) (ltb counts (slotsOf n)) (upto-counts .0) in
+      let upto-counts = neither _ (ltb sums (slotCountOf n)) (upto-sums .0) in
+      let first-two = neither (ltb lone (slotCountOf n)) (ltb counts (slotCountOf n)) (upto-counts .0) in
       record {
         few-keys = ltb-false maxKeys n (one .0);
         some = omega (arith, eqb-false limit 0 (in-range .0));
         most = ltb-false maxAttempts limit (in-range .1);
-        in-fingerprints = ltb-false fingerprints (slotsOf n) (three .0);
-        in-lone = ltb-false lone (slotsOf n) (first-two .0);
-        in-counts = ltb-false counts (slotsOf n) (first-two .1);
-        in-sums = ltb-false sums (slotsOf n) (upto-counts .1);
+        in-fingerprints = ltb-false fingerprints (slotCountOf n) (three .0);
+        in-lone = ltb-false lone (slotCountOf n) (first-two .0);
+        in-counts = ltb-false counts (slotCountOf n) (first-two .1);
+        in-sums = ltb-false sums (slotCountOf n) (upto-counts .1);
         in-positions = ltb-false positions n (upto-sums .1);
         in-order = ltb-false order (n + 1) (upto-positions .1);
         in-starts = ltb-false starts (bucketStartsOf n) (upto-order .1);

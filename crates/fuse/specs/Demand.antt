@@ -11,7 +11,7 @@ use Rattle.answers.specs.Answers.{Answer, refuses, gives}
 use Rattle.answers.specs.Checks.{done}
 use Rattle.repeats.specs.Repeats.{Twice}
 use Rattle.stuck.specs.FirstFree.{First, AllStuck}
-use Rattle.layout.specs.Layout.{slotsOf}
+use Rattle.layout.specs.Layout.{slotCountOf}
 use Rattle.fuse.specs.Attempts.{descriptorAt, slotsAt}
 use Rattle.fuse.specs.Memory.{Memory, checked}
 use Rattle.fuse.specs.Build.{Success, success}
@@ -23,7 +23,7 @@ pub record Demand3 (w : ℕ) (keys : List ℕ) (first last : ℕ) (memory : Memo
   pub names-the-first : (s : Success) → answer ≡ gives s → First (slotsAt keys) first last (s .attempt)
   -- and where there is one, and checks 1 to 4 pass, it is named, with its descriptor and A
   pub stops-at-the-first : (i : ℕ) → checked (length keys) last memory ≡ gives done → First (slotsAt keys) first last i
-      → answer ≡ gives (success (descriptorAt (length keys) i) (slotsOf (length keys)) i)
+      → answer ≡ gives (success (descriptorAt (length keys) i) (slotCountOf (length keys)) i)
   -- checks 8 to 11 accept the descriptor with the first A fingerprints
   pub accepted : (s : Success) → answer ≡ gives s → accepts (s .descriptor) (take (s .slots) fingerprints) ≡ gives done
   -- every listed key then answers yes, asked of the descriptor and the first A fingerprints alone

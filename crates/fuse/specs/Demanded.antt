@@ -10,7 +10,7 @@ use lib.Seq.{take-at}
 use Rattle.answers.specs.Answers.{Answer, refuses, gives, Outcome}
 use Rattle.answers.specs.Checks.{Done, done, unlessRefused}
 use Rattle.capacity.specs.Capacity.{maxKeys}
-use Rattle.layout.specs.Layout.{slotsOf}
+use Rattle.layout.specs.Layout.{slotCountOf}
 use Rattle.repeats.specs.Repeats.{repeats?, Twice}
 use Rattle.repeats.specs.Laws.{repeats-iff}
 use Rattle.stuck.specs.FirstFree.{First, AllStuck}
@@ -54,7 +54,7 @@ data Kind (w : ℕ) (keys : List ℕ) (first last : ℕ) (checks : Answer Done) 
   none : {f : List ℕ} → checks ≡ gives done → length keys ≤ maxKeys → repeats? keys ≡ false → NoneFree (free keys) first (last + 1 - first)
       → Kind w keys first last checks (refuses 6) f
   some : {f : List ℕ} (k : ℕ) → checks ≡ gives done → length keys ≤ maxKeys → repeats? keys ≡ false → FirstFree (free keys) first (last + 1 - first) k
-      → take (slotsOf (length keys)) f ≡ fingerprintsAt w keys k → Kind w keys first last checks (gives (success (descriptorAt (length keys) k) (slotsOf (length keys)) k)) f
+      → take (slotCountOf (length keys)) f ≡ fingerprintsAt w keys k → Kind w keys first last checks (gives (success (descriptorAt (length keys) k) (slotCountOf (length keys)) k)) f
 
 never : {X : Type 0} → _≡_ {A = ℕ} 0 1 → X
 never z = absurd (omega arith)
@@ -97,16 +97,16 @@ module _ (w : ℕ) (keys : List ℕ) (first last : ℕ) (m : Memory) where
   meets a f (some k e few r g filled) =
       record {
         names-the-first = λ s q.
-            let z : success (descriptorAt (length keys) k) (slotsOf (length keys)) k ≡ s = cc in
+            let z : success (descriptorAt (length keys) k) (slotCountOf (length keys)) k ≡ s = cc in
             subst (λ (x : Success). First (slotsAt keys) first last (x .attempt)) z (first-of keys first last few g);
         stops-at-the-first = λ i q other.
-            ap (λ (x : ℕ). gives (success (descriptorAt (length keys) x) (slotsOf (length keys)) x))
+            ap (λ (x : ℕ). gives (success (descriptorAt (length keys) x) (slotCountOf (length keys)) x))
             (first-same (slotsAt keys) first last k i (first-of keys first last few g) other);
         accepted = λ s q.
-            let z : success (descriptorAt (length keys) k) (slotsOf (length keys)) k ≡ s = cc in
+            let z : success (descriptorAt (length keys) k) (slotCountOf (length keys)) k ≡ s = cc in
             rw (← z, filled) (attempt-accepts w keys k few);
         every-key-yes = λ s q j lt.
-            let z : success (descriptorAt (length keys) k) (slotsOf (length keys)) k ≡ s = cc in
+            let z : success (descriptorAt (length keys) k) (slotCountOf (length keys)) k ≡ s = cc in
             rw (← z, filled) (listed-key-yes w keys k few (g .is) j lt);
         five = (λ q. never (cc), λ q. absurd (not-twice keys r (q .1)));
         six = (λ q. never (cc), λ q. absurd (first-not-all (slotsAt keys) first last k (first-of keys first last few g) (q .1 .1)));
@@ -114,8 +114,8 @@ module _ (w : ℕ) (keys : List ℕ) (first last : ℕ) (m : Memory) where
 
   -- ---- every outcome of the definition is of one kind
 
-  front : (i : ℕ) (rest : List ℕ) → take (slotsOf (length keys)) (fingerprintsAt w keys i ++ rest) ≡ fingerprintsAt w keys i
-  front i rest = take-at (fingerprintsAt w keys i) rest (slotsOf (length keys)) (attempt-fingerprints-length w keys i)
+  front : (i : ℕ) (rest : List ℕ) → take (slotCountOf (length keys)) (fingerprintsAt w keys i ++ rest) ≡ fingerprintsAt w keys i
+  front i rest = take-at (fingerprintsAt w keys i) rest (slotCountOf (length keys)) (attempt-fingerprints-length w keys i)
 
   module _ (allowed : 1 ≤ last → (1 ≤ first) × (first ≤ last)) where
     found-kind : (found : ℕ) → checks ≡ gives done → length keys ≤ maxKeys → 1 ≤ first → repeats? keys ≡ false

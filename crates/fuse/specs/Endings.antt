@@ -8,7 +8,7 @@ use native.Mathlib.Omega.{arith}
 use lib.ListN.{length, replicate, take-append-drop, length-replicate}
 use Rattle.answers.specs.Answers.{refuses, gives}
 use Rattle.descriptor.specs.declared.Descriptor.{Descriptor}
-use Rattle.layout.specs.Layout.{slotsOf}
+use Rattle.layout.specs.Layout.{slotCountOf}
 use Rattle.arith.specs.Fingerprint.{fingerprintOf}
 use Rattle.repeats.specs.Repeats.{repeats?}
 use Rattle.stuck.specs.Fill.{fill}
@@ -56,7 +56,7 @@ found-built w keys zero m some = absurd (omega arith)
 found-built w keys (suc i) m some = refl
 
 module _ {keys : List ℕ} {found : ℕ} {before positions order : List ℕ} (can : CanFinish keys found before positions order) where
-  cleared-are : {cleared : List ℕ} → cleared ≡ zeros before → cleared ≡ replicate (slotsOf (length keys)) 0
+  cleared-are : {cleared : List ℕ} → cleared ≡ zeros before → cleared ≡ replicate (slotCountOf (length keys)) 0
   cleared-are e = e ∙ ap (λ (k : ℕ). replicate k 0) (can .fingerprints-length)
 
   -- ---- 6
@@ -79,7 +79,7 @@ module _ {keys : List ℕ} {found : ℕ} {before positions order : List ℕ} (ca
     can-fill-found {cleared} clear =
         rw described
         (can-fill _ _ _ _ _ keys (segmented found (can .few)) (length keys) cleared order positions
-        (ap length (cleared-are clear) ∙ length-replicate (slotsOf (length keys)) 0)
+        (ap length (cleared-are clear) ∙ length-replicate (slotCountOf (length keys)) 0)
         (omega (arith, can .order-length))
         (omega (arith, can .positions-length))
         (can .there some .1))
@@ -92,7 +92,7 @@ module _ {keys : List ℕ} {found : ℕ} {before positions order : List ℕ} (ca
         (rw (described, cleared-are clear) at full)
         ∙ filled _ _ _ _ _ keys w (length keys) order positions (can .there some .1)
 
-    pub ends-built : (w : ℕ) {slots : ℕ} → slots ≡ slotsOf (length keys) → {cleared after : List ℕ} → cleared ≡ zeros before
+    pub ends-built : (w : ℕ) {slots : ℕ} → slots ≡ slotCountOf (length keys) → {cleared after : List ℕ} → cleared ≡ zeros before
         → after ≡ fillFrom w d (length keys) order positions cleared
         → Finished w keys found (gives (success d slots found)) before after
     ends-built w counted clear full =

@@ -5,13 +5,13 @@ use mathlib.Core.List.{List, []}
 use Prim.Native.Nat.{ℕ, _+_, _≤_}
 use lib.ListN.{length, replicate}
 use Rattle.capacity.specs.Capacity.{maxKeys}
-use Rattle.layout.specs.Layout.{slotsOf, bucketStartsOf}
+use Rattle.layout.specs.Layout.{slotCountOf, bucketStartsOf}
 use Rattle.fuse.specs.Memory.{Memory, memory}
 
 pub record Exact (n : ℕ) (lone counts sums positions order starts : List ℕ) : Type 0 where
-  pub lone-length : length lone ≡ slotsOf n
-  pub counts-length : length counts ≡ slotsOf n
-  pub sums-length : length sums ≡ slotsOf n
+  pub lone-length : length lone ≡ slotCountOf n
+  pub counts-length : length counts ≡ slotCountOf n
+  pub sums-length : length sums ≡ slotCountOf n
   pub positions-length : length positions ≡ n
   pub order-length : length order ≡ n + 1
   pub starts-length : length starts ≡ bucketStartsOf n

@@ -7,7 +7,7 @@ use Prim.Native.Nat.{ℕ, _+_, _-_, _≤_}
 use lib.ListN.{length, take, replicate}
 use Rattle.answers.specs.Answers.{Answer, Outcome, outcome}
 use Rattle.capacity.specs.Capacity.{maxKeys}
-use Rattle.layout.specs.Layout.{slotsOf, bucketStartsOf}
+use Rattle.layout.specs.Layout.{slotCountOf, bucketStartsOf}
 use Rattle.repeats.specs.Repeats.{repeats?}
 use Rattle.peel.specs.Buffers.{picksIn}
 use Rattle.fuse.specs.Attempts.{picksAt, free}
@@ -17,14 +17,14 @@ use Rattle.fuse.specs.Search.{CanSearch}
 
 -- what a search over the attempts `first` to `last` that ends with fingerprints asks
 pub record CanBuild (keys : List ℕ) (first last : ℕ) (fingerprints lone counts sums positions order starts : List ℕ) : Type 0 where
-  pub fingerprints-length : length fingerprints ≡ slotsOf (length keys)
+  pub fingerprints-length : length fingerprints ≡ slotCountOf (length keys)
   pub can-search : CanSearch keys first last lone counts sums positions order starts
 
 -- ---- from the attempt found, or 0, to the answer and the fingerprints
 
 pub record CanFinish (keys : List ℕ) (found : ℕ) (fingerprints positions order : List ℕ) : Type 0 where
   pub few : length keys ≤ maxKeys
-  pub fingerprints-length : length fingerprints ≡ slotsOf (length keys)
+  pub fingerprints-length : length fingerprints ≡ slotCountOf (length keys)
   pub positions-length : length positions ≡ length keys
   pub order-length : length order ≡ length keys + 1
   pub there : 1 ≤ found → (free keys found ≡ true) × (picksIn (length keys) order positions ≡ picksAt keys found)
@@ -35,15 +35,15 @@ endOutcome w keys found m = cond (repeats? keys) (repeatedOutcome keys m) (found
 
 -- in any memory whose first A fingerprints were `before`, this answer with the fingerprints `after` is that outcome
 pub record Finished (w : ℕ) (keys : List ℕ) (found : ℕ) (answer : Answer Success) (before after : List ℕ) : Type 0 where
-  pub ends : (m : Memory) → take (slotsOf (length keys)) (m .fingerprints) ≡ before
-      → outcome answer (scratchZeroed (length keys) m (begins (slotsOf (length keys)) after (m .fingerprints))) ≡ endOutcome w keys found m
+  pub ends : (m : Memory) → take (slotCountOf (length keys)) (m .fingerprints) ≡ before
+      → outcome answer (scratchZeroed (length keys) m (begins (slotCountOf (length keys)) after (m .fingerprints))) ≡ endOutcome w keys found m
 
 -- ---- a whole search, from fingerprints `before` to memory `after`
 
 -- the scratch for n keys, zeroed
 abbrev pub clearScratch : (n : ℕ) (fingerprints : List ℕ) → Memory
 clearScratch n fingerprints =
-    memory fingerprints (replicate (slotsOf n) 0) (replicate (slotsOf n) 0) (replicate (slotsOf n) 0) (replicate n 0) (replicate (n + 1) 0)
+    memory fingerprints (replicate (slotCountOf n) 0) (replicate (slotCountOf n) 0) (replicate (slotCountOf n) 0) (replicate n 0) (replicate (n + 1) 0)
     (replicate (bucketStartsOf n) 0)
 
 pub record Ran (w : ℕ) (keys : List ℕ) (first last : ℕ) (answer : Answer Success) (before : List ℕ) (after : Memory) : Type 0 where

@@ -10,7 +10,7 @@ use borrow.Author.Tests.{eq-eqb, eqb-true, eqb-false}
 use lib.ListN.{length, getD}
 use lib.Pow.{pow-pos}
 use Rattle.capacity.specs.Capacity.{maxKeys}
-use Rattle.layout.specs.Layout.{layoutOf, slotsOf}
+use Rattle.layout.specs.Layout.{layoutOf, slotCountOf}
 use Rattle.layout.specs.Fits.{layout-fits, same-slots}
 use Rattle.answers.specs.Answers.{Answer, gives}
 use Rattle.answers.specs.Checks.{Done, done, _then_}
@@ -33,7 +33,7 @@ use Rattle.fuse.specs.Query.{leftOver, yes?, fingerprintsFor, accepts, c
 -- ---- the layout of an attempt
 
 module _ {n : ℕ} (i : ℕ) (few : n ≤ maxKeys) where
-  pub segmented : let d = descriptorAt n i in Segmented (d .«segment_length») (d .«segment_length_mask») (d .«segment_count_length») (slotsOf n)
+  pub segmented : let d = descriptorAt n i in Segmented (d .«segment_length») (d .«segment_length_mask») (d .«segment_count_length») (slotCountOf n)
   unfolding descriptorAt
   segmented =
       let f = layout-fits i few in
@@ -52,7 +52,7 @@ module _ {n : ℕ} (i : ℕ) (few : n ≤ maxKeys) where
   unfolding segmented
   segments-counted = refl
 
-  pub attempt-length : fingerprintsFor (descriptorAt n i) ≡ slotsOf n
+  pub attempt-length : fingerprintsFor (descriptorAt n i) ≡ slotCountOf n
   unfolding descriptorAt
   attempt-length = layout-fits i few .whole ∙ same-slots n i
 
@@ -100,7 +100,7 @@ module _ (keys : List ℕ) (i : ℕ) (few : length keys ≤ maxKeys) where
 
 -- ---- the fingerprints
 
-pub attempt-fingerprints-length : (w : ℕ) (keys : List ℕ) (i : ℕ) → length (fingerprintsAt w keys i) ≡ slotsOf (length keys)
+pub attempt-fingerprints-length : (w : ℕ) (keys : List ℕ) (i : ℕ) → length (fingerprintsAt w keys i) ≡ slotCountOf (length keys)
 unfolding fingerprintsAt
 attempt-fingerprints-length w keys i = fingerprints-length _ _ _ _ _ keys w
 

@@ -9,7 +9,7 @@ use lib.ListN.{length, take, drop, replicate, length-replicate}
 use lib.Seq.{take-at, drop-at}
 use Rattle.answers.specs.Answers.{Answer, refuses, gives, Outcome}
 use Rattle.answers.specs.Checks.{Done, done, unlessRefused}
-use Rattle.layout.specs.Layout.{slotsOf, bucketStartsOf}
+use Rattle.layout.specs.Layout.{slotCountOf, bucketStartsOf}
 use Rattle.repeats.specs.Repeats.{repeats?}
 use Rattle.fuse.specs.Attempts.{free, descriptorAt, fingerprintsAt}
 use Rattle.fuse.specs.Memory.{Memory, zeroed, checked, scratchZeroed}
@@ -46,9 +46,9 @@ module _ (w : ℕ) (keys : List ℕ) (m : Memory) where
   scratch-is-zeroed : (f : List ℕ) → EachScratch n (λ needed buffer. ZeroedUpTo needed (buffer (scratchZeroed n m f)))
   scratch-is-zeroed f =
       record {
-        of-lone = zeroed-up-to (slotsOf n) (m .lone);
-        of-counts = zeroed-up-to (slotsOf n) (m .counts);
-        of-sums = zeroed-up-to (slotsOf n) (m .sums);
+        of-lone = zeroed-up-to (slotCountOf n) (m .lone);
+        of-counts = zeroed-up-to (slotCountOf n) (m .counts);
+        of-sums = zeroed-up-to (slotCountOf n) (m .sums);
         of-positions = zeroed-up-to n (m .positions);
         of-order = zeroed-up-to (n + 1) (m .order);
         of-starts = zeroed-up-to (bucketStartsOf n) (m .starts);
@@ -57,9 +57,9 @@ module _ (w : ℕ) (keys : List ℕ) (m : Memory) where
   scratch-is-kept : (f : List ℕ) → EachScratch n (λ needed buffer. KeptBeyond needed (buffer m) (buffer (scratchZeroed n m f)))
   scratch-is-kept f =
       record {
-        of-lone = kept-beyond (slotsOf n) (m .lone);
-        of-counts = kept-beyond (slotsOf n) (m .counts);
-        of-sums = kept-beyond (slotsOf n) (m .sums);
+        of-lone = kept-beyond (slotCountOf n) (m .lone);
+        of-counts = kept-beyond (slotCountOf n) (m .counts);
+        of-sums = kept-beyond (slotCountOf n) (m .sums);
         of-positions = kept-beyond n (m .positions);
         of-order = kept-beyond (n + 1) (m .order);
         of-starts = kept-beyond (bucketStartsOf n) (m .starts);
@@ -94,10 +94,10 @@ module _ (w : ℕ) (keys : List ℕ) (m : Memory) where
       record {
         all-unchanged = λ number e h. absurd (let z : _≡_ {A = ℕ} 6 number = cc in omega arith);
         fingerprints-unchanged = λ e. absurd (let z : _≡_ {A = ℕ} 6 5 = cc in omega arith);
-        fingerprints-zeroed = λ e. zeroed-up-to (slotsOf n) (m .fingerprints);
+        fingerprints-zeroed = λ e. zeroed-up-to (slotCountOf n) (m .fingerprints);
         fingerprints-written = λ s e. never (cc);
         scratch-zeroed = λ later. scratch-is-zeroed _;
-        fingerprints-beyond = kept-beyond (slotsOf n) (m .fingerprints);
+        fingerprints-beyond = kept-beyond (slotCountOf n) (m .fingerprints);
         scratch-beyond = scratch-is-kept _;
       }
   found-left (suc k) =
@@ -107,10 +107,10 @@ module _ (w : ℕ) (keys : List ℕ) (m : Memory) where
         fingerprints-unchanged = λ e. never (cc);
         fingerprints-zeroed = λ e. never (cc);
         fingerprints-written = λ s e.
-            let z : success (descriptorAt n (suc k)) (slotsOf n) (suc k) ≡ s = cc in
-            rw (← z) (take-at (fingerprintsAt w keys (suc k)) (drop (slotsOf n) (m .fingerprints)) (slotsOf n) all);
+            let z : success (descriptorAt n (suc k)) (slotCountOf n) (suc k) ≡ s = cc in
+            rw (← z) (take-at (fingerprintsAt w keys (suc k)) (drop (slotCountOf n) (m .fingerprints)) (slotCountOf n) all);
         scratch-zeroed = λ later. scratch-is-zeroed _;
-        fingerprints-beyond = drop-at (fingerprintsAt w keys (suc k)) (drop (slotsOf n) (m .fingerprints)) (slotsOf n) all;
+        fingerprints-beyond = drop-at (fingerprintsAt w keys (suc k)) (drop (slotCountOf n) (m .fingerprints)) (slotCountOf n) all;
         scratch-beyond = scratch-is-kept _;
       }
 

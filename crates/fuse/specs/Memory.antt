@@ -8,7 +8,7 @@ use lib.Dec.{eqb, ltb}
 use Rattle.answers.specs.Answers.{Answer}
 use Rattle.answers.specs.Checks.{Done, refuseIf, _then_}
 use Rattle.capacity.specs.Capacity.{maxKeys}
-use Rattle.layout.specs.Layout.{slotsOf, bucketStartsOf}
+use Rattle.layout.specs.Layout.{slotCountOf, bucketStartsOf}
 use Rattle.fuse.specs.Attempts.{maxAttempts}
 
 -- fingerprints, and the scratch: lone list, touch counts, hash sums, positions, order, bucket starts
@@ -27,14 +27,14 @@ memory f l c s p o b = record { fingerprints = f; lone = l; counts = c; sums = s
 -- "lone list A, touch counts A, hash sums A, positions n, order n + 1, bucket starts P": one of them is shorter
 abbrev pub short? : (n lone counts sums positions order starts : ℕ) → Bool
 short? n lone counts sums positions order starts =
-    ltb lone (slotsOf n) || ltb counts (slotsOf n) || ltb sums (slotsOf n) || ltb positions n || ltb order (n + 1) || ltb starts (bucketStartsOf n)
+    ltb lone (slotCountOf n) || ltb counts (slotCountOf n) || ltb sums (slotCountOf n) || ltb positions n || ltb order (n + 1) || ltb starts (bucketStartsOf n)
 
 -- checks 1 to 4, of the number of keys, the attempt limit or number, and the lengths lent
 unfoldable pub checksOf : (n limit fingerprints lone counts sums positions order starts : ℕ) → Answer Done
 checksOf n limit fingerprints lone counts sums positions order starts =
     refuseIf (ltb maxKeys n) 1
     then refuseIf (eqb limit 0 || ltb maxAttempts limit) 2
-    then refuseIf (ltb fingerprints (slotsOf n)) 3
+    then refuseIf (ltb fingerprints (slotCountOf n)) 3
     then refuseIf (short? n lone counts sums positions order starts) 4
 
 -- the same of the memory lent
@@ -54,5 +54,5 @@ zeroed n all = begins n (replicate n 0) all
 -- "scratch zeroed means the needed part of each buffer; what lies beyond is never changed"
 abbrev pub scratchZeroed : (n : ℕ) → Memory → (fingerprints : List ℕ) → Memory
 scratchZeroed n m fingerprints =
-    memory fingerprints (zeroed (slotsOf n) (m .lone)) (zeroed (slotsOf n) (m .counts)) (zeroed (slotsOf n) (m .sums))
+    memory fingerprints (zeroed (slotCountOf n) (m .lone)) (zeroed (slotCountOf n) (m .counts)) (zeroed (slotCountOf n) (m .sums))
     (zeroed n (m .positions)) (zeroed (n + 1) (m .order)) (zeroed (bucketStartsOf n) (m .starts))

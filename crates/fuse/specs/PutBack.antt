@@ -7,7 +7,7 @@ use lib.ListN.{length, take}
 use lib.Seq.{length-take-le}
 use Rattle.answers.specs.Answers.{Answer, refuses, gives, outcome}
 use Rattle.answers.specs.Checks.{Done, done, unlessRefused}
-use Rattle.layout.specs.Layout.{slotsOf, bucketStartsOf}
+use Rattle.layout.specs.Layout.{slotCountOf, bucketStartsOf}
 use Rattle.fuse.specs.Attempts.{free}
 use Rattle.fuse.specs.Memory.{Memory, memory, checked}
 use Rattle.fuse.specs.Checked.{passed}
@@ -27,7 +27,7 @@ pub record Rooms (slots n starts : ℕ) (m : Memory) : Type 0 where
   pub in-order : n + 1 ≤ length (m .order)
   pub in-starts : starts ≤ length (m .starts)
 
-pub within-lent : (n last : ℕ) {slots starts : ℕ} → slots ≡ slotsOf n → starts ≡ bucketStartsOf n → (m : Memory) → checked n last m ≡ gives done
+pub within-lent : (n last : ℕ) {slots starts : ℕ} → slots ≡ slotCountOf n → starts ≡ bucketStartsOf n → (m : Memory) → checked n last m ≡ gives done
     → Rooms slots n starts m
 within-lent n last slots-are starts-are m e =
     let p = passed n last _ _ _ _ _ _ _ e in
@@ -44,7 +44,7 @@ within-lent n last slots-are starts-are m e =
 
 -- And they can be built on. Check 2 is of `last`, so that what is known of `first` may be asked only then.
 pub parts-can-build : (keys : List ℕ) (first last : ℕ) → (1 ≤ last → (1 ≤ first) × (first ≤ last)) → {slots starts : ℕ}
-    → slots ≡ slotsOf (length keys) → starts ≡ bucketStartsOf (length keys) → (m : Memory) → checked (length keys) last m ≡ gives done
+    → slots ≡ slotCountOf (length keys) → starts ≡ bucketStartsOf (length keys) → (m : Memory) → checked (length keys) last m ≡ gives done
     → CanBuild keys first last (take slots (m .fingerprints)) (take slots (m .lone)) (take slots (m .counts)) (take slots (m .sums))
     (take (length keys) (m .positions)) (take (length keys + 1) (m .order)) (take starts (m .starts))
 parts-can-build keys first last allowed slots-are starts-are m e =
@@ -53,7 +53,7 @@ parts-can-build keys first last allowed slots-are starts-are m e =
     let from = allowed (p .some) in
     rw (slots-are, starts-are)
     (record {
-      fingerprints-length = length-take-le (slotsOf n) (m .fingerprints) (p .in-fingerprints);
+      fingerprints-length = length-take-le (slotCountOf n) (m .fingerprints) (p .in-fingerprints);
       can-search =
           record {
             some = from .0;
@@ -64,9 +64,9 @@ parts-can-build keys first last allowed slots-are starts-are m e =
                   few = p .few-keys;
                   exact =
                       record {
-                        lone-length = length-take-le (slotsOf n) (m .lone) (p .in-lone);
-                        counts-length = length-take-le (slotsOf n) (m .counts) (p .in-counts);
-                        sums-length = length-take-le (slotsOf n) (m .sums) (p .in-sums);
+                        lone-length = length-take-le (slotCountOf n) (m .lone) (p .in-lone);
+                        counts-length = length-take-le (slotCountOf n) (m .counts) (p .in-counts);
+                        sums-length = length-take-le (slotCountOf n) (m .sums) (p .in-sums);
                         positions-length = length-take-le n (m .positions) (p .in-positions);
                         order-length = length-take-le (n + 1) (m .order) (p .in-order);
                         starts-length = length-take-le (bucketStartsOf n) (m .starts) (p .in-starts);
@@ -102,7 +102,7 @@ module _ (w : ℕ) (keys : List ℕ) (first last : ℕ) (m : Memory) where
   refused e = sym (decided e)
 
   -- `slots` and `starts` as the code computed them
-  pub ran : {answer : Answer Success} {parts : Memory} {slots starts : ℕ} → slots ≡ slotsOf n → starts ≡ bucketStartsOf n
+  pub ran : {answer : Answer Success} {parts : Memory} {slots starts : ℕ} → slots ≡ slotCountOf n → starts ≡ bucketStartsOf n
       → checked n last m ≡ gives done
       → Ran w keys first last answer (take slots (m .fingerprints)) parts
       → outcome answer (putBack slots n starts parts m) ≡ searchOf w keys last first (last + 1 - first) m

@@ -2,7 +2,7 @@
 ghost use mathlib.Core.Path.{_≡_};
 ghost use Prim.Native.Nat.{_≤_};
 ghost use Rattle.capacity.specs.Capacity.{maxKeys};
-ghost use Rattle.layout.specs.Layout.{slotsOf};
+ghost use Rattle.layout.specs.Layout.{slotCountOf};
 ghost use Rattle.peel.specs.Buffers.{picksIn};
 ghost use Rattle.fuse.specs.Attempts.{descriptorAt, picksAt};
 ghost use Rattle.fuse.specs.Exact.{CanTry};
@@ -16,7 +16,7 @@ use peel::clear::clear_u64;
 // A: how many slots n keys take.
 pub fn slots_for(n: u32) -> u32
     requires { ⌜ n ≤ maxKeys ⌝ }
-    ensures { λ r. ⌜ r ≡ slotsOf n ⌝ }
+    ensures { λ r. ⌜ r ≡ slotCountOf n ⌝ }
 {
     let layout = plain(n);
     layout.array_length

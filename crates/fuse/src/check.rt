@@ -2,7 +2,7 @@
 ghost use mathlib.Core.Path.{_≡_};
 ghost use Prim.Native.Nat.{_≤_};
 ghost use Rattle.capacity.specs.Capacity.{maxKeys};
-ghost use Rattle.layout.specs.Layout.{slotsOf, bucketStartsOf};
+ghost use Rattle.layout.specs.Layout.{slotCountOf, bucketStartsOf};
 ghost use Rattle.descriptor.specs.Paper.{checkPaper};
 ghost use Rattle.fuse.specs.Memory.{short?, checksOf};
 use crate::attempts::slots_for;
@@ -26,7 +26,7 @@ fn short(
     order: usize,
     starts: usize,
 ) -> bool
-    requires { ⌜ (n ≤ maxKeys) × (slots ≡ slotsOf n) × (buckets ≡ bucketStartsOf n) ⌝ }
+    requires { ⌜ (n ≤ maxKeys) × (slots ≡ slotCountOf n) × (buckets ≡ bucketStartsOf n) ⌝ }
     ensures { λ r. ⌜ r ≡ short? n lone counts sums positions order starts ⌝ }
 {
     (lone < slots)

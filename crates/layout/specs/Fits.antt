@@ -13,7 +13,7 @@ use lib.Pow.{pow-add, pow-mono, pow-pos}
 use Rattle.capacity.specs.Capacity.{maxKeys, maxCapacity, capacityOf}
 use Rattle.capacity.proofs.EverySize.{every-size}
 use Rattle.layout.specs.declared.Layout.{Layout}
-use Rattle.layout.specs.Layout.{maxSlots, exponentOf, segmentsOf, countOf, layoutWith, plainOf, slotsOf, halvedOf, halves, layoutOf}
+use Rattle.layout.specs.Layout.{maxSlots, exponentOf, segmentsOf, countOf, layoutWith, plainOf, slotCountOf, halvedOf, halves, layoutOf}
 use Rattle.layout.specs.Exponent.{maxExponent, exponent-from, exponent-to, exponent-above-four}
 
 -- a power of two in 4 .. 262,144
@@ -97,7 +97,7 @@ half-length : (e : ℕ) → 3 ≤ e → e ≤ 18 → SegmentLength (2 ^ e / 2)
 half-length zero from to = absurd (omega arith)
 half-length (suc e) from to = record { exponent = e; from = omega arith; to = omega arith; is = half-power e }
 
-pub halved-slots : {n : ℕ} → 4 < n → halvedOf (plainOf n) .«array_length» ≡ slotsOf n
+pub halved-slots : {n : ℕ} → 4 < n → halvedOf (plainOf n) .«array_length» ≡ slotCountOf n
 unfolding plainOf
 halved-slots {n} more = let from = exponent-above-four more in half-slots (countOf (capacityOf n) (2 ^ exponentOf n)) (exponentOf n) (omega arith)
 
@@ -123,8 +123,8 @@ layout-cases n attempt P plain halved = by-tests (ltb 4 n) (eqb (attempt % 4) 2)
 pub layout-fits : {n : ℕ} (attempt : ℕ) → n ≤ maxKeys → Fits (layoutOf n attempt)
 layout-fits {n} attempt h = layout-cases n attempt Fits (plain-fits h) (halved-fits h)
 
-pub same-slots : (n attempt : ℕ) → layoutOf n attempt .«array_length» ≡ slotsOf n
-same-slots n attempt = layout-cases n attempt (λ l. l .«array_length» ≡ slotsOf n) refl halved-slots
+pub same-slots : (n attempt : ℕ) → layoutOf n attempt .«array_length» ≡ slotCountOf n
+same-slots n attempt = layout-cases n attempt (λ l. l .«array_length» ≡ slotCountOf n) refl halved-slots
 
 pub two-layouts : (n attempt : ℕ) → (layoutOf n attempt ≡ layoutOf n 1) ⊎ (layoutOf n attempt ≡ layoutOf n 2)
 unfolding layoutOf halves

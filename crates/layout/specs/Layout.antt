@@ -51,8 +51,8 @@ unfoldable pub plainOf : ℕ → Layout
 plainOf n = layoutWith (segmentLengthOf n) (countOf (capacityOf n) (segmentLengthOf n))
 
 -- A, the number of slots for n keys. (It is the same in every attempt: Fits.antt.)
-abbrev pub slotsOf : ℕ → ℕ
-slotsOf n = plainOf n .«array_length»
+abbrev pub slotCountOf : ℕ → ℕ
+slotCountOf n = plainOf n .«array_length»
 
 -- ---- the layout of an attempt
 

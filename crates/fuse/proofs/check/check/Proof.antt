@@ -7,7 +7,7 @@ use borrow.Author.Tests.{lt-ltb, le-ltb}
 use lib.Dec.{ltb}
 use Rattle.answers.specs.Checks.{refuseIf}
 use Rattle.capacity.specs.Capacity.{maxKeys}
-use Rattle.layout.specs.Layout.{slotsOf}
+use Rattle.layout.specs.Layout.{slotCountOf}
 use Rattle.fuse.specs.Memory.{checksOf}
 use Rattle.fuse.proofs.check.check.Statement.{statement}
 use Rattle.fuse.proofs.check.check.Tie as tie
@@ -29,7 +29,7 @@ unfolding checksOf
 returns-3 c =
     let numbered : tie.Else2 = c .before .before in
     let args = numbered .before .before .args in
-    simp (few-keys (numbered .before), numbered .if2 .left, lt-ltb (args .fingerprints) (slotsOf (args .n)) (omega arith))
+    simp (few-keys (numbered .before), numbered .if2 .left, lt-ltb (args .fingerprints) (slotCountOf (args .n)) (omega arith))
 
 -- check 4 alone is left
 last-check : (c : tie.After-short) (fault : Bool) → c .short .result ≡ fault
@@ -43,7 +43,7 @@ last-check c fault e =
     simp (
       few-keys (numbered .before),
       numbered .if2 .left,
-      le-ltb (args .fingerprints) (slotsOf (args .n)) (omega arith),
+      le-ltb (args .fingerprints) (slotCountOf (args .n)) (omega arith),
       sym (c .short .ensures) ∙ e,
     )
 
