@@ -5,14 +5,8 @@ use borrow.Author.Needs.{needs}
 use Rattle.answers.proofs.code.Statement.{statement}
 use Rattle.answers.proofs.code.Tie as tie
 
-number-requires : tie.Need-number-requires
-number-requires c κs = search needs
-
 add-result : tie.Need-add-result
 add-result c = omega (arith, up-to-twelve (c .before .args .refusal))
 
-returns : tie.Need-returns
-returns c = search needs
-
 pub code-spec : {M : Type 1} → statement M
-code-spec = tie.close (tie.spec number-requires add-result returns)
+code-spec = tie.close (tie.spec (λ c κs. search needs) add-result (λ c. search needs))

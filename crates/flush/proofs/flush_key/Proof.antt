@@ -21,13 +21,10 @@ cast-hour c = rw (toZ-ofZ (c .before .fits .seconds)) (counted c .not-below, cou
 returns-2 : tie.Need-returns-2
 returns-2 c = too-late _ _ (rw (toZ-ofZ (c .before .before .fits .seconds)) at (c .if2 .taken)) ∙ counted (c .before) .is
 
-key-requires : tie.Need-key-requires
-key-requires c κs = search needs
-
 returns-3 : tie.Need-returns-3
 returns-3 c =
     let e = toZ-ofZ (c .before .before .before .fits .seconds) in
     ap gives (rw e at (c .key .ensures)) ∙ in-time _ _ (rw e at (c .before .if2 .left)) ∙ counted (c .before .before) .is
 
 pub flush-key-spec : {M : Type 1} → statement M
-flush-key-spec = tie.close (tie.spec returns cast-hour returns-2 key-requires returns-3)
+flush-key-spec = tie.close (tie.spec returns cast-hour returns-2 (λ c κs. search needs) returns-3)

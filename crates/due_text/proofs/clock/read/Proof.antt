@@ -9,28 +9,10 @@ use Rattle.due_text.proofs.clock.read.Tie as tie
 returns : tie.Need-returns
 returns c = empty-word _ (c .if1 .taken)
 
-shared-slice-read-if2 : tie.Need-shared-slice-read-if2
-shared-slice-read-if2 c = search needs
-
-sub-seconds : tie.Need-sub-seconds
-sub-seconds c = search needs
-
-part-seconds-start : tie.Need-part-seconds-start
-part-seconds-start c = search needs
-
-part-seconds-end : tie.Need-part-seconds-end
-part-seconds-end c = search needs
-
-seconds-requires : tie.Need-seconds-requires
-seconds-requires c κs = search needs
-
 returns-2 : tie.Need-returns-2
 returns-2 c =
     let t : tie.Then2 = c .before .before in
     c .seconds .ensures ∙ after-minus (now (t .before .before .before .before .args .word)) (t .before .before .if1 .left) (t .if2 .taken)
-
-seconds-requires-2 : tie.Need-seconds-requires-2
-seconds-requires-2 c κs = search needs
 
 returns-3 : tie.Need-returns-3
 returns-3 c =
@@ -42,11 +24,5 @@ read-spec =
     tie.close
     (tie.spec
     returns
-    shared-slice-read-if2
-    sub-seconds
-    part-seconds-start
-    part-seconds-end
-    seconds-requires
-    returns-2
-    seconds-requires-2
-    returns-3)
+    (λ c. search needs) (λ c. search needs) (λ c. search needs) (λ c. search needs) (λ c κs. search needs) returns-2
+    (λ c κs. search needs) returns-3)

@@ -14,12 +14,6 @@ use Rattle.due_text.proofs.Minus.{minus-fits, minus-is}
 use Rattle.due_text.proofs.clock.seconds.Statement.{statement}
 use Rattle.due_text.proofs.clock.seconds.Tie as tie
 
-read-requires : tie.Need-read-requires
-read-requires c κs = search needs
-
-enum-known-number : tie.Need-enum-known-number
-enum-known-number c = search needs
-
 -- the value that is cast is the number of the digits
 read-as : (m : tie.After-number) → Value (m .number .given .0 .0) ≡ numberOf (now (m .before .before .before .before .args .digits))
 read-as m = sym (m .number .given .1) ∙ m .before .before .read .ensures
@@ -29,9 +23,6 @@ returns c =
     let m : tie.After-number = c .before .before in
     too-late (m .before .before .before .before .args .negative) (read-as m) (omega arith)
 
-cast-t7 : tie.Need-cast-t7
-cast-t7 c = search needs
-
 sub-t8 : tie.Need-sub-t8
 sub-t8 c = minus-fits (c .before .before .before .number .given .0 .0) (omega arith)
 
@@ -40,15 +31,6 @@ returns-2 c =
     let m : tie.After-number = c .before .before .before in
     let n = m .number .given .0 .0 in
     in-time (m .before .before .before .before .args .negative) (read-as m) (omega arith) (minus-is n (omega arith) ∙ ap (λ (b : Bool). signed b n) (sym (c .if2 .taken)))
-
-cast-t9 : tie.Need-cast-t9
-cast-t9 c = search needs
-
-enum-told : tie.Need-enum-told
-enum-told c = search needs
-
-enum-told-2 : tie.Need-enum-told-2
-enum-told-2 c = search needs
 
 returns-3 : tie.Need-returns-3
 returns-3 c =
@@ -66,15 +48,6 @@ pub seconds-spec : {M : Type 1} → statement M
 seconds-spec =
     tie.close
     (tie.spec
-    read-requires
-    enum-known-number
-    returns
-    cast-t7
-    sub-t8
-    returns-2
-    cast-t9
-    enum-told
-    enum-told-2
-    returns-3
-    returns-4
-    returns-5)
+    (λ c κs. search needs) (λ c. search needs) returns
+    (λ c. search needs) sub-t8 returns-2
+    (λ c. search needs) (λ c. search needs) (λ c. search needs) returns-3 returns-4 returns-5)

@@ -10,19 +10,13 @@ returns : tie.Need-returns
 unfolding numberOf
 returns c = simp (eq-eqb _ _ (c .if1 .taken))
 
-all-digits-requires : tie.Need-all-digits-requires
-all-digits-requires c κs = search needs
-
 returns-2 : tie.Need-returns-2
 unfolding numberOf
 returns-2 c = simp (ne-eqb _ _ (c .before .before .if1 .left), sym (c .before .all-digits .ensures) ∙ not-true _ (c .if2 .taken))
-
-value-requires : tie.Need-value-requires
-value-requires c κs = search needs
 
 returns-3 : tie.Need-returns-3
 unfolding numberOf
 returns-3 c = c .value .ensures ∙ simp (ne-eqb _ _ (c .before .before .before .if1 .left), sym (c .before .before .all-digits .ensures) ∙ not-false _ (c .before .if2 .left))
 
 pub read-spec : {M : Type 1} → statement M
-read-spec = tie.close (tie.spec returns all-digits-requires returns-2 value-requires returns-3)
+read-spec = tie.close (tie.spec returns (λ c κs. search needs) returns-2 (λ c κs. search needs) returns-3)

@@ -26,35 +26,11 @@ with-next l =
     let more = grows (h .loop .value * 10 + (getD digits (h .loop .i) 0 - 48)) (drop (h .loop .i + 1) digits) in
     omega (arith, more, one-digit-more digits (h .loop .i) (omega arith) (h .loop .value))
 
-loop-holds : tie.Need-loop-holds Inv-loop μ-loop
-loop-holds c = search needs
-
 returns : tie.Need-returns Inv-loop μ-loop
 returns c = too-large _ (omega (arith, with-next (c .before)))
 
-shared-slice-read-digit : tie.Need-shared-slice-read-digit Inv-loop μ-loop
-shared-slice-read-digit c = search needs
-
-digit-requires : tie.Need-digit-requires Inv-loop μ-loop
-digit-requires c κs = search needs
-
-mul-tens : tie.Need-mul-tens Inv-loop μ-loop
-mul-tens c = search needs
-
-sub-if2 : tie.Need-sub-if2 Inv-loop μ-loop
-sub-if2 c = search needs
-
 returns-2 : tie.Need-returns-2 Inv-loop μ-loop
 returns-2 c = too-large _ (omega (arith, with-next (c .before .before .before .before)))
-
-add-value : tie.Need-add-value Inv-loop μ-loop
-add-value c = search needs
-
-add-i : tie.Need-add-i Inv-loop μ-loop
-add-i c = search needs
-
-loop-less : tie.Need-loop-less Inv-loop μ-loop
-loop-less c = search needs
 
 loop-again : tie.Need-loop-again Inv-loop μ-loop
 loop-again c =
@@ -75,17 +51,7 @@ pub value-spec : {M : Type 1} → statement M
 value-spec =
     tie.close
     (tie.spec
-    Inv-loop
-    μ-loop
-    loop-holds
-    returns
-    shared-slice-read-digit
-    digit-requires
-    mul-tens
-    sub-if2
-    returns-2
-    add-value
-    add-i
-    loop-less
-    loop-again
-    returns-3)
+    Inv-loop μ-loop
+    (λ c. search needs) returns
+    (λ c. search needs) (λ c κs. search needs) (λ c. search needs) (λ c. search needs) returns-2
+    (λ c. search needs) (λ c. search needs) (λ c. search needs) loop-again returns-3)

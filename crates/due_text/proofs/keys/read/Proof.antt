@@ -36,50 +36,14 @@ at-match c =
 loop-holds : tie.Need-loop-holds Inv-loop μ-loop
 loop-holds c = begins _ _
 
-find-requires : tie.Need-find-requires Inv-loop μ-loop
-find-requires c κs = search needs
-
-add-number : tie.Need-add-number Inv-loop μ-loop
-add-number c = search needs
-
-sub-read : tie.Need-sub-read Inv-loop μ-loop
-sub-read c = search needs
-
-part-read-start : tie.Need-part-read-start Inv-loop μ-loop
-part-read-start c = search needs
-
-part-read-end : tie.Need-part-read-end Inv-loop μ-loop
-part-read-end c = search needs
-
-read-requires : tie.Need-read-requires Inv-loop μ-loop
-read-requires c κs = search needs
-
-enum-told : tie.Need-enum-told Inv-loop μ-loop
-enum-told c = search needs
-
-enum-known-said : tie.Need-enum-known-said Inv-loop μ-loop
-enum-known-said c = search needs
-
-same-length : tie.Need-same-length Inv-loop μ-loop
-same-length c = search needs
-
 returns : tie.Need-returns Inv-loop μ-loop
 returns c =
     let r : tie.After-read Inv-loop μ-loop = c .before .before .before .before in
     let l = r .before .before .before in
     no-place (l .before .loop .inv) (l .loop-test .taken) (r .before .before .find .ensures .0) (sym (c .before .before .said .given .1) ∙ r .read .ensures) (omega arith)
 
-slice-reshare-prefix-listed : tie.Need-slice-reshare-prefix-listed Inv-loop μ-loop
-slice-reshare-prefix-listed c = search needs
-
 slice-aggregate-listed : tie.Need-slice-aggregate-listed Inv-loop μ-loop
 slice-aggregate-listed c = sym (length-take-le _ _ (search needs))
-
-listed-requires : tie.Need-listed-requires Inv-loop μ-loop
-listed-requires c κs = search needs
-
-same-length-2 : tie.Need-same-length-2 Inv-loop μ-loop
-same-length-2 c = search needs
 
 returns-2 : tie.Need-returns-2 Inv-loop μ-loop
 returns-2 c =
@@ -88,38 +52,14 @@ returns-2 c =
     repeated (l .before .loop .inv) (l .loop-test .taken) (r .before .before .find .ensures .0) (sym (c .before .before .before .before .before .said .given .1) ∙ r .read .ensures)
     (omega arith) (sym (c .before .listed .ensures) ∙ c .if2 .taken)
 
-mul-room : tie.Need-mul-room Inv-loop μ-loop
-mul-room c = search needs
-
-slice-write-room : tie.Need-slice-write-room Inv-loop μ-loop
-slice-write-room c = search needs
-
-add-count : tie.Need-add-count Inv-loop μ-loop
-add-count c = search needs
-
-enum-known-said-2 : tie.Need-enum-known-said-2 Inv-loop μ-loop
-enum-known-said-2 c = search needs
-
-same-length-3 : tie.Need-same-length-3 Inv-loop μ-loop
-same-length-3 c = search needs
-
 returns-3 : tie.Need-returns-3 Inv-loop μ-loop
 returns-3 c =
     let r : tie.After-read Inv-loop μ-loop = c .before .before .before in
     let l = r .before .before .before in
     bad-line (l .before .loop .inv) (l .loop-test .taken) (r .before .before .find .ensures .0) (sym (c .before .said2 .given .1) ∙ r .read .ensures)
 
-past-requires : tie.Need-past-requires Inv-loop μ-loop
-past-requires c κs = search needs
-
-loop-less : tie.Need-loop-less Inv-loop μ-loop
-loop-less c = search needs
-
 loop-again : tie.Need-loop-again Inv-loop μ-loop
 loop-again c = rw (c .past .ensures) (at-match (c .before))
-
-same-length-4 : tie.Need-same-length-4 Inv-loop μ-loop
-same-length-4 c = search needs
 
 returns-4 : tie.Need-returns-4 Inv-loop μ-loop
 returns-4 c = no-line-left (c .before .loop .inv) (c .loop-test .left)
@@ -128,32 +68,11 @@ pub read-spec : {M : Type 1} → statement M
 read-spec =
     tie.close
     (tie.spec
-    Inv-loop
-    μ-loop
-    loop-holds
-    find-requires
-    add-number
-    sub-read
-    part-read-start
-    part-read-end
-    read-requires
-    enum-told
-    enum-known-said
-    same-length
-    returns
-    slice-reshare-prefix-listed
-    slice-aggregate-listed
-    listed-requires
-    same-length-2
-    returns-2
-    mul-room
-    slice-write-room
-    add-count
-    enum-known-said-2
-    same-length-3
-    returns-3
-    past-requires
-    loop-less
-    loop-again
-    same-length-4
-    returns-4)
+    Inv-loop μ-loop loop-holds
+    (λ c κs. search needs) (λ c. search needs) (λ c. search needs) (λ c. search needs) (λ c. search needs) (λ c κs. search needs) (λ c. search needs)
+    (λ c. search needs) (λ c. search needs) returns
+    (λ c. search needs) slice-aggregate-listed
+    (λ c κs. search needs) (λ c. search needs) returns-2
+    (λ c. search needs) (λ c. search needs) (λ c. search needs) (λ c. search needs) (λ c. search needs) returns-3
+    (λ c κs. search needs) (λ c. search needs) loop-again
+    (λ c. search needs) returns-4)

@@ -14,12 +14,6 @@ use Rattle.due_text.proofs.Numbers.{above-last, up-to-last}
 use Rattle.due_text.proofs.line.due.Statement.{statement}
 use Rattle.due_text.proofs.line.due.Tie as tie
 
-read-requires : tie.Need-read-requires
-read-requires c κs = search needs
-
-enum-known-number : tie.Need-enum-known-number
-enum-known-number c = search needs
-
 -- what is said with a number that is not above the last
 next : (s : tie.Start) → ℕ → Line
 next s n = dueAtUnit n (now (s .args .valve)) (now (s .args .seconds))
@@ -32,18 +26,6 @@ unfolding dueOf next
 returns c =
     let m : tie.After-number = c .before .before in
     above-last 65535 UnitAbove (read-as m) (next (m .before .before .before .before .before .before)) (omega arith)
-
-cast-due-at-unit : tie.Need-cast-due-at-unit
-cast-due-at-unit c = search needs
-
-due-at-unit-requires : tie.Need-due-at-unit-requires
-due-at-unit-requires c κs = search needs
-
-enum-told : tie.Need-enum-told
-enum-told c = search needs
-
-enum-told-2 : tie.Need-enum-told-2
-enum-told-2 c = search needs
 
 returns-2 : tie.Need-returns-2
 unfolding dueOf next
@@ -63,13 +45,5 @@ pub due-spec : {M : Type 1} → statement M
 due-spec =
     tie.close
     (tie.spec
-    read-requires
-    enum-known-number
-    returns
-    cast-due-at-unit
-    due-at-unit-requires
-    enum-told
-    enum-told-2
-    returns-2
-    returns-3
-    returns-4)
+    (λ c κs. search needs) (λ c. search needs) returns
+    (λ c. search needs) (λ c κs. search needs) (λ c. search needs) (λ c. search needs) returns-2 returns-3 returns-4)

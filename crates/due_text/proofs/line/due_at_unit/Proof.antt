@@ -15,12 +15,6 @@ use Rattle.due_text.proofs.Numbers.{above-last, up-to-last}
 use Rattle.due_text.proofs.line.due_at_unit.Statement.{statement}
 use Rattle.due_text.proofs.line.due_at_unit.Tie as tie
 
-read-requires : tie.Need-read-requires
-read-requires c κs = search needs
-
-enum-known-number : tie.Need-enum-known-number
-enum-known-number c = search needs
-
 -- what is said with a number that is not above the last
 next : (s : tie.Start) → ℕ → Line
 next s n = dueAtClock (s .args .unit) n (clockOf (now (s .args .seconds)))
@@ -33,18 +27,6 @@ unfolding dueAtUnit next
 returns c =
     let m : tie.After-number = c .before .before in
     above-last 255 ValveAbove (read-as m) (next (m .before .before .before .before .before)) (omega arith)
-
-cast-due-at-valve : tie.Need-cast-due-at-valve
-cast-due-at-valve c = search needs
-
-due-at-valve-requires : tie.Need-due-at-valve-requires
-due-at-valve-requires c κs = search needs
-
-enum-told : tie.Need-enum-told
-enum-told c = search needs
-
-enum-told-2 : tie.Need-enum-told-2
-enum-told-2 c = search needs
 
 returns-2 : tie.Need-returns-2
 unfolding dueAtUnit next
@@ -64,13 +46,5 @@ pub due-at-unit-spec : {M : Type 1} → statement M
 due-at-unit-spec =
     tie.close
     (tie.spec
-    read-requires
-    enum-known-number
-    returns
-    cast-due-at-valve
-    due-at-valve-requires
-    enum-told
-    enum-told-2
-    returns-2
-    returns-3
-    returns-4)
+    (λ c κs. search needs) (λ c. search needs) returns
+    (λ c. search needs) (λ c κs. search needs) (λ c. search needs) (λ c. search needs) returns-2 returns-3 returns-4)

@@ -8,24 +8,6 @@ use Rattle.due_text.specs.Line.{dueAtClock, keyedOf}
 use Rattle.due_text.proofs.line.due_at_valve.Statement.{statement}
 use Rattle.due_text.proofs.line.due_at_valve.Tie as tie
 
-read-requires : tie.Need-read-requires
-read-requires c κs = search needs
-
-enum-known-clock : tie.Need-enum-known-clock
-enum-known-clock c = search needs
-
-flush-key-requires : tie.Need-flush-key-requires
-flush-key-requires c κs = search needs
-
-keyed-requires : tie.Need-keyed-requires
-keyed-requires c κs = search needs
-
-enum-told : tie.Need-enum-told
-enum-told c = search needs
-
-enum-told-2 : tie.Need-enum-told-2
-enum-told-2 c = search needs
-
 returns : tie.Need-returns
 returns c =
     let m : tie.After-clock = c .before .before .before in
@@ -44,12 +26,5 @@ pub due-at-valve-spec : {M : Type 1} → statement M
 due-at-valve-spec =
     tie.close
     (tie.spec
-    read-requires
-    enum-known-clock
-    flush-key-requires
-    keyed-requires
-    enum-told
-    enum-told-2
-    returns
-    returns-2
+    (λ c κs. search needs) (λ c. search needs) (λ c κs. search needs) (λ c κs. search needs) (λ c. search needs) (λ c. search needs) returns returns-2
     returns-3)

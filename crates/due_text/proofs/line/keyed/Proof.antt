@@ -11,12 +11,6 @@ use Rattle.due_text.specs.Line.{keyedOf}
 use Rattle.due_text.proofs.line.keyed.Statement.{statement}
 use Rattle.due_text.proofs.line.keyed.Tie as tie
 
-enum-known-answer : tie.Need-enum-known-answer
-enum-known-answer c = search needs
-
-enum-known-answer-2 : tie.Need-enum-known-answer-2
-enum-known-answer-2 c = search needs
-
 returns : tie.Need-returns
 returns c = ap (λ (a : KeyAnswer). keyedOf (paper a)) (sym (c .before .answer .given .1))
 
@@ -24,4 +18,4 @@ returns-2 : tie.Need-returns-2
 returns-2 c = ap (λ (why : Refusal). Bad (Refused why)) (sym (refusal-number _)) ∙ ap (λ (a : KeyAnswer). keyedOf (paper a)) (sym (c .before .answer2 .given .1))
 
 pub keyed-spec : {M : Type 1} → statement M
-keyed-spec = tie.close (tie.spec enum-known-answer enum-known-answer-2 returns returns-2)
+keyed-spec = tie.close (tie.spec (λ c. search needs) (λ c. search needs) returns returns-2)

@@ -11,18 +11,12 @@ use Rattle.due_text.proofs.Said.{up-to-comment}
 use Rattle.due_text.proofs.line.read.Statement.{statement}
 use Rattle.due_text.proofs.line.read.Tie as tie
 
-find-requires : tie.Need-find-requires
-find-requires c κs = search needs
-
 slice-aggregate-said : tie.Need-slice-aggregate-said
 slice-aggregate-said c = sym (length-take-le _ _ (search needs))
-
-said-requires : tie.Need-said-requires
-said-requires c κs = search needs
 
 returns : tie.Need-returns
 unfolding lineOf
 returns c = c .said .ensures ∙ ap (λ (l : List ℕ). saidBy (wordsOf l)) (up-to-comment (now (c .before .before .before .before .args .text)) (c .before .before .find .ensures .0))
 
 pub read-spec : {M : Type 1} → statement M
-read-spec = tie.close (tie.spec find-requires slice-aggregate-said said-requires returns)
+read-spec = tie.close (tie.spec (λ c κs. search needs) slice-aggregate-said (λ c κs. search needs) returns)

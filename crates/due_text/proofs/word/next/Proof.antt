@@ -8,9 +8,6 @@ use Rattle.due_text.proofs.NextWords.{next-word}
 use Rattle.due_text.proofs.word.next.Statement.{statement}
 use Rattle.due_text.proofs.word.next.Tie as tie
 
-past-blanks-requires : tie.Need-past-blanks-requires
-past-blanks-requires c κs = search needs
-
 past-word-requires : tie.Need-past-word-requires
 past-word-requires c κs =
     let a = c .before .before .args in
@@ -20,4 +17,4 @@ returns : tie.Need-returns
 returns c = next-word _ _ _ _ (c .before .before .before .pre) (c .before .past-blanks .ensures) (c .past-word .ensures)
 
 pub next-spec : {M : Type 1} → statement M
-next-spec = tie.close (tie.spec past-blanks-requires past-word-requires returns)
+next-spec = tie.close (tie.spec (λ c κs. search needs) past-word-requires returns)
