@@ -1,5 +1,4 @@
 // A list is asked whether a flush is due.
-use crate::files;
 use crate::messages;
 use crate::pack::MAX_SLOTS;
 use contains8::ContainsAnswer;

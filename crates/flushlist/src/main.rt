@@ -1,10 +1,8 @@
 // `flushlist` packs a text of due flushes into a list, and asks a list whether a flush is due. Results go to standard output and
 // what went wrong to standard error; a program of Rattle has no exit status.
 mod ask;
-mod files;
 mod messages;
 mod pack;
-mod print;
 mod sample;
 
 use due_text::line;

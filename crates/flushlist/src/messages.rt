@@ -1,71 +1,70 @@
 // What went wrong, in words, on standard error.
-use crate::print;
 use answers::Refusal;
 use due_text::line::Fault;
 
 pub fn usage() {
-    print::error(
+    printing::error(
         b"flushlist pack TEXT LIST                packs the due flushes of TEXT into LIST\n",
     );
-    print::error(b"flushlist ask LIST UNIT VALVE SECONDS   says whether that flush is due\n");
-    print::error(b"flushlist ask LIST KEY                  the same of a plain key\n");
-    print::error(
+    printing::error(b"flushlist ask LIST UNIT VALVE SECONDS   says whether that flush is due\n");
+    printing::error(b"flushlist ask LIST KEY                  the same of a plain key\n");
+    printing::error(
         b"flushlist                               packs due.txt into due.list and asks it\n",
     );
 }
 
 // A list under the text's own name would take its place.
 pub fn same_name(name: &[u8]) {
-    print::error(name);
-    print::error(b": text and list have the same name\n");
+    printing::error(name);
+    printing::error(b": text and list have the same name\n");
 }
 
 // What is wrong with a line, by its number.
 pub fn bad_line(number: usize, why: Fault) {
-    print::error(b"line ");
-    print::error_number(number as u64);
-    print::error(b": ");
+    printing::error(b"line ");
+    printing::error_number(number as u64);
+    printing::error(b": ");
     fault(why);
 }
 
 pub fn fault(why: Fault) {
     match why {
-        Fault::NotNumber => print::error(b"not a number\n"),
-        Fault::WordCount => print::error(b"neither one word nor three\n"),
-        Fault::UnitAbove => print::error(b"unit above 65535\n"),
-        Fault::ValveAbove => print::error(b"valve above 255\n"),
-        Fault::ClockBeyond => print::error(b"seconds beyond 63 bits\n"),
-        Fault::KeyAbove => print::error(b"key above 18446744073709551615\n"),
+        Fault::NotNumber => printing::error(b"not a number\n"),
+        Fault::WordCount => printing::error(b"neither one word nor three\n"),
+        Fault::UnitAbove => printing::error(b"unit above 65535\n"),
+        Fault::ValveAbove => printing::error(b"valve above 255\n"),
+        Fault::ClockBeyond => printing::error(b"seconds beyond 63 bits\n"),
+        Fault::KeyAbove => printing::error(b"key above 18446744073709551615\n"),
         Fault::Refused(why) => refused(why),
-        Fault::TooManyKeys => print::error(b"more than 4096 keys\n"),
+        Fault::TooManyKeys => printing::error(b"more than 4096 keys\n"),
     }
 }
 
 // Why a list was refused, by its name.
 pub fn refused_list(list: &[u8], why: Refusal) {
-    print::error(list);
-    print::error(b": ");
+    printing::error(list);
+    printing::error(b": ");
     refused(why);
 }
 
 // A refusal by its number, and when it is given.
 pub fn refused(why: Refusal) {
-    print::error(b"refused ");
-    print::error_number(answers::number(why) as u64);
-    print::error(b": ");
+    printing::error(b"refused ");
+    printing::error_number(answers::number(why) as u64);
+    printing::error(b": ");
     reason(why);
-    print::error(b"\n");
+    printing::error(b"\n");
 }
 
 fn reason(why: Refusal) {
     match why {
-        Refusal::TooManyKeys => print::error(b"more than 4096 keys"),
-        Refusal::AttemptOutOfRange => print::error(b"attempt limit or number outside 1..1000"),
-        Refusal::ShortFingerprints => print::error(b"too little room for the fingerprints"),
-        Refusal::ShortScratch => print::error(b"a scratch buffer is too short"),
-        Refusal::RepeatedKeys => print::error(b"two keys are equal"),
-        Refusal::Stuck => print::error(b"every allowed attempt has a stuck set"),
-        Refusal::Clock => print::error(b"clock below zero, or hour above 2^39 - 1"),
+        Refusal::TooManyKeys => printing::error(b"more than 4096 keys"),
+        Refusal::AttemptOutOfRange => printing::error(b"attempt limit or number outside 1..1000"),
+        Refusal::ShortFingerprints => printing::error(b"too little room for the fingerprints"),
+        Refusal::ShortScratch => printing::error(b"a scratch buffer is too short"),
+        Refusal::RepeatedKeys => printing::error(b"two keys are equal"),
+        Refusal::Stuck => printing::error(b"every allowed attempt has a stuck set"),
+        Refusal::Clock => printing::error(b"clock below zero, or hour above 2^39 - 1"),
         _ => of_list(why),
     }
 }
@@ -73,12 +72,12 @@ fn reason(why: Refusal) {
 // Why a list is refused.
 fn of_list(why: Refusal) {
     match why {
-        Refusal::ShortDescriptor => print::error(b"fewer than 20 bytes of descriptor"),
-        Refusal::SegmentLength => print::error(b"segment length no power of two in 4..262144"),
-        Refusal::Mask => print::error(b"mask is not the segment length less 1"),
-        Refusal::CountLength => print::error(
+        Refusal::ShortDescriptor => printing::error(b"fewer than 20 bytes of descriptor"),
+        Refusal::SegmentLength => printing::error(b"segment length no power of two in 4..262144"),
+        Refusal::Mask => printing::error(b"mask is not the segment length less 1"),
+        Refusal::CountLength => printing::error(
             b"segment count length 0, no multiple of the segment length, or too large",
         ),
-        _ => print::error(b"not as many fingerprints as the descriptor says"),
+        _ => printing::error(b"not as many fingerprints as the descriptor says"),
     }
 }

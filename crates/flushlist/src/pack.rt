@@ -1,7 +1,6 @@
 // From a text of due flushes to a list: the 20 bytes of the descriptor, and the fingerprints.
 ghost use mathlib.Core.Path.{_≡_};
 ghost use lib.ListN.{length};
-use crate::files;
 use crate::messages;
 use bfuse8::BuildAnswer;
 use descriptor::DESCRIPTOR_SIZE;

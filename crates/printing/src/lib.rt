@@ -1,6 +1,7 @@
-// Printing to standard output, for every program: texts, numbers, bytes, and refusals by their number. No contract can say what is
-// written, so these functions are only proved safe; what a program prints is held to its file `stdout`.
+// Printing to standard output, for every program: texts, numbers, bytes, and refusals by their number; and to standard error. No contract
+// can say what is written, so these functions are only proved safe; what a program prints is held to its file `stdout`.
 use answers::Refusal;
+use libc::STDERR_FILENO;
 use libc::STDOUT_FILENO;
 
 pub fn text(bytes: &[u8]) {
@@ -66,4 +67,13 @@ pub fn bytes(all: &[u8]) {
         i += 1;
     }
     line_end();
+}
+
+// What went wrong, to standard error.
+pub fn error(bytes: &[u8]) {
+    io::write_all(STDERR_FILENO, bytes);
+}
+
+pub fn error_number(x: u64) {
+    io::print_decimal(STDERR_FILENO, x);
 }

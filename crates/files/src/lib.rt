@@ -2,7 +2,6 @@
 ghost use Rattle.io.specs.Counts.{Counts};
 ghost use Prim.Native.Nat.{_≤_};
 ghost use lib.ListN.{length};
-use crate::print;
 use libc::PATH_MAX;
 
 // For the longest name, and `.part`.
@@ -72,10 +71,10 @@ fn some(fd: i32, path: &[u8], room: &mut [u8]) -> Contents
 }
 
 fn too_long(path: &[u8], size: usize) {
-    print::error(path);
-    print::error(b": not shorter than ");
-    print::error_number(size as u64);
-    print::error(b" bytes\n");
+    printing::error(path);
+    printing::error(b": not shorter than ");
+    printing::error_number(size as u64);
+    printing::error(b" bytes\n");
 }
 
 // The two parts of a list under this name. They are written under a second name, which then becomes the first: so there is never

@@ -1,11 +1,11 @@
--- `flushlist::files::fill` meets its contract: each read goes behind the bytes that came before. Assumes nothing.
+-- `files::fill` meets its contract: each read goes behind the bytes that came before. Assumes nothing.
 use Prim.Native.Nat.{_-_, _≤_}
 use mathlib.Core.Path.{_≡_, sym}
 use borrow.Author.Needs.{needs}
 use lib.ListN.{length}
 use lib.Seq.{length-take-le}
-use Rattle.flushlist.proofs.files.fill.Statement.{statement}
-use Rattle.flushlist.proofs.files.fill.Tie as tie
+use Rattle.files.proofs.fill.Statement.{statement}
+use Rattle.files.proofs.fill.Tie as tie
 
 abbrev Inv-loop : tie.InvT-loop
 Inv-loop fd path room₀ count₀ room count = (count ≤ length room) × (length room ≡ length room₀)

@@ -1,9 +1,9 @@
--- `flushlist::files::beside` meets its contract: the room holds both parts of the name. Assumes nothing.
+-- `files::beside` meets its contract: the room holds both parts of the name. Assumes nothing.
 use mathlib.Core.Path.{sym}
 use lib.Seq.{length-take-le}
 use borrow.Author.Needs.{needs}
-use Rattle.flushlist.proofs.files.beside.Statement.{statement}
-use Rattle.flushlist.proofs.files.beside.Tie as tie
+use Rattle.files.proofs.beside.Statement.{statement}
+use Rattle.files.proofs.beside.Tie as tie
 
 returns-3 : tie.Need-returns-3
 returns-3 c = (search needs, sym (length-take-le _ _ (search needs)))
