@@ -1,11 +1,11 @@
--- Document 01, "What the promises say": these must not fit. Whatever program answers and leaves as `build` promises does not refuse every list, does not
--- give zero bytes, one descriptor or one attempt number for all, and does not always refuse with less than 6. Assumes nothing.
+-- Document 01, "What the promises say": these must not fit. Whatever program answers and leaves as `build` promises does not refuse every list, and does
+-- not give zero bytes, one descriptor or one attempt number for all. Assumes nothing.
 use mathlib.Core.Path.{_≡_, sym, ap, _∙_}
 use mathlib.Core.List.{List, [], _∷_}
 use Prim.Native.Nat.{ℕ}
 use native.Mathlib.Omega.{arith}
 use lib.ListN.{take, replicate, getD}
-use Rattle.answers.specs.Answers.{Answer, gives, Outcome}
+use Rattle.answers.specs.Answers.{gives, Outcome}
 use Rattle.descriptor.specs.declared.Descriptor.{Descriptor}
 use Rattle.fuse.specs.Memory.{Memory}
 use Rattle.fuse.specs.Build.{Success, buildOf}

@@ -1,6 +1,6 @@
 -- What a C program may rely on: after a build that named an attempt, the query answers 1 for every listed key, asked of the 20 bytes and of as many
 -- fingerprints as they speak of, both as the build left them. Assumes nothing.
-use mathlib.Core.Path.{_≡_, refl, sym, ap, _∙_}
+use mathlib.Core.Path.{_≡_, refl, ap}
 use mathlib.Core.Bool.{Bool, true, false, cond}
 use mathlib.Core.List.{List}
 use Prim.Native.Nat.{ℕ, _+_, _-_, _<_}

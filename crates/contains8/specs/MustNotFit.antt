@@ -1,6 +1,6 @@
 -- Document 01, "What the promises say": these must not fit. Whatever program answers as `contains` promises does not always say yes, nor always no, nor
 -- refuse every question. Assumes nothing.
-use mathlib.Core.Path.{_≡_, refl, sym, ap, _∙_}
+use mathlib.Core.Path.{_≡_, refl, sym, _∙_}
 use mathlib.Core.Bool.{Bool, true, false}
 use mathlib.Core.List.{List}
 use Prim.Native.Nat.{ℕ, _-_, _^_}

@@ -1,11 +1,11 @@
 -- What document 01 says of the memory left follows from the outcome: 1 to 4 leave it as it was; else the scratch is zeroed, and the fingerprints are
 -- kept, zeroed or written up to A. Any width. Assumes nothing.
-use mathlib.Core.Path.{_≡_, refl, ap}
+use mathlib.Core.Path.{_≡_, refl}
 use mathlib.Core.Bool.{Bool, true, false, cond}
-use mathlib.Core.List.{List, _++_}
+use mathlib.Core.List.{List}
 use Prim.Native.Nat.{ℕ, zero, suc, _+_, _≤_}
 use native.Mathlib.Omega.{arith}
-use lib.ListN.{length, take, drop, replicate, length-replicate}
+use lib.ListN.{length, drop, replicate, length-replicate}
 use lib.Seq.{take-at, drop-at}
 use Rattle.answers.specs.Answers.{Answer, refuses, gives, Outcome}
 use Rattle.answers.specs.Checks.{Done, done, unlessRefused}
