@@ -1,4 +1,4 @@
 pub mod KeyTold
 pub mod BuildTold
 pub mod OneAnswer
-pub mod ListedKeys
+pub mod Reliable

@@ -39,24 +39,23 @@ pub data All : List Case → Type 0 where
   no-more : All []
   _and_ : {c : Case} {cs : List Case} → Holds c → All cs → All (c ∷ cs)
 
--- C1 to C5, C6 and C7, C8, C9 (three rows), C10 to C12, C13
 abbrev pub table : List Case
 table =
-    slots 0 (0 ∷ 4 ∷ 8 ∷ [])
-    ∷ slots 1 (0 ∷ 4 ∷ 9 ∷ [])
-    ∷ slots (2 ^ 18) (0 ∷ 5 ∷ 8 ∷ [])
-    ∷ slots (2 ^ 63) (2 ∷ 6 ∷ 10 ∷ [])
-    ∷ slots (2 ^ 64 - 1) (3 ∷ 4 ∷ 8 ∷ [])
-    ∷ fingerprint (2 ^ 32) 1
-    ∷ fingerprint (2 ^ 32 + 1) 0
-    ∷ mix64 0 0
-    ∷ row 0 0 (laid 4 1 4 12) (laid 4 1 4 12)
-    ∷ row 2 12 (laid 4 1 4 12) (laid 4 1 4 12)
-    ∷ row 5 15 (laid 8 1 8 24) (laid 4 4 16 24)
-    ∷ stuck (at 0 4 8 ∷ at 0 4 8 ∷ [])
-    ∷ stuck (at 0 4 8 ∷ at 0 5 8 ∷ at 0 4 9 ∷ at 0 5 9 ∷ [])
-    ∷ not-stuck (at 0 4 8 ∷ at 0 5 8 ∷ at 0 4 9 ∷ [])
-    ∷ flush 1 2 (pos 7199) (2 ^ 48 + 2 ^ 41 + 1)
+    slots 0 (0 ∷ 4 ∷ 8 ∷ [])  -- C1
+    ∷ slots 1 (0 ∷ 4 ∷ 9 ∷ [])  -- C2
+    ∷ slots (2 ^ 18) (0 ∷ 5 ∷ 8 ∷ [])  -- C3
+    ∷ slots (2 ^ 63) (2 ∷ 6 ∷ 10 ∷ [])  -- C4
+    ∷ slots (2 ^ 64 - 1) (3 ∷ 4 ∷ 8 ∷ [])  -- C5
+    ∷ fingerprint (2 ^ 32) 1  -- C6
+    ∷ fingerprint (2 ^ 32 + 1) 0  -- C7
+    ∷ mix64 0 0  -- C8
+    ∷ row 0 0 (laid 4 1 4 12) (laid 4 1 4 12)  -- C9, size 0
+    ∷ row 2 12 (laid 4 1 4 12) (laid 4 1 4 12)  -- C9, size 2
+    ∷ row 5 15 (laid 8 1 8 24) (laid 4 4 16 24)  -- C9, size 5
+    ∷ stuck (at 0 4 8 ∷ at 0 4 8 ∷ [])  -- C10
+    ∷ stuck (at 0 4 8 ∷ at 0 5 8 ∷ at 0 4 9 ∷ at 0 5 9 ∷ [])  -- C11
+    ∷ not-stuck (at 0 4 8 ∷ at 0 5 8 ∷ at 0 4 9 ∷ [])  -- C12
+    ∷ flush 1 2 (pos 7199) (2 ^ 48 + 2 ^ 41 + 1)  -- C13
     ∷ []
 
 pub cases : All table

@@ -70,28 +70,35 @@ module _ (w : ℕ) (keys : List ℕ) (m : Memory) where
   checked-named (refuses k) o named s e = never (cc)
   checked-named (gives done) o named s e = (refl, named s e)
 
+  -- where checks 1 to 4 pass
   pub success-is : (limit first count : ℕ) (o : Outcome Success Memory) → o ≡ searchOf w keys limit first count m → (s : Success) → o .answer ≡ gives s
-      → (length keys ≤ maxKeys) × (s ≡ success (descriptorAt (length keys) (s .attempt)) (slotCountOf (length keys)) (s .attempt))
+      → (checked (length keys) limit m ≡ gives done)
+      × (s ≡ success (descriptorAt (length keys) (s .attempt)) (slotCountOf (length keys)) (s .attempt))
   unfolding searchOf
   success-is limit first count o e s a =
-      let named = checked-named (checked (length keys) limit m) _ (searched-named (repeats? keys) (firstFree (free keys) first count)) s
-      (ap (λ (x : Outcome Success Memory). x .answer) (sym e) ∙ a) in
-      (passed (length keys) limit _ _ _ _ _ _ _ (named .0) .few-keys, named .1)
+      checked-named (checked (length keys) limit m) _ (searched-named (repeats? keys) (firstFree (free keys) first count)) s
+      (ap (λ (x : Outcome Success Memory). x .answer) (sym e) ∙ a)
 
   -- ---- so every listed key answers yes, asked of the 20 bytes and whatever follows them
 
   module _ (first last : ℕ) (allowed : 1 ≤ last → (1 ≤ first) × (first ≤ last)) (o : Outcome Success Memory)
       (e : o ≡ searchOf w keys last first (last + 1 - first) m) (s : Success) (built : o .answer ≡ gives s) where
+    abbrev is : (checked (length keys) last m ≡ gives done)
+        × (s ≡ success (descriptorAt (length keys) (s .attempt)) (slotCountOf (length keys)) (s .attempt))
+    is = success-is last first (last + 1 - first) o e s built
+
+    few : length keys ≤ maxKeys
+    few = passed (length keys) last _ _ _ _ _ _ _ (is .0) .few-keys
+
     sized : Sized (s .descriptor)
-    sized = let is = success-is last first (last + 1 - first) o e s built in rw (is .1) (attempt-sized (s .attempt) (is .0))
+    sized = rw (is .1) (attempt-sized (s .attempt) few)
 
     -- A is the number of fingerprints that the bytes speak of
     pub counted-by-bytes : (rest : List ℕ) → fingerprintsFor (descriptorOf (encode (s .descriptor) ++ rest)) ≡ s .slots
     counted-by-bytes rest =
-        let is = success-is last first (last + 1 - first) o e s built in
         ap fingerprintsFor (decode-encode (s .descriptor) rest sized)
         ∙ ap (λ (x : Success). fingerprintsFor (x .descriptor)) (is .1)
-        ∙ attempt-length (s .attempt) (is .0)
+        ∙ attempt-length (s .attempt) few
         ∙ ap (λ (x : Success). x .slots) (sym (is .1))
 
     pub listed-key-yes-by-bytes : (rest : List ℕ) (j : ℕ) → j < length keys → let bytes = encode (s .descriptor) ++ rest in
