@@ -7,3 +7,4 @@ pub mod Keys
 pub mod Room
 pub mod OneAnswer
 pub mod Examples
+pub mod Different

@@ -21,7 +21,7 @@ WithinRoom (Read count) room = count ≤ room
 WithinRoom (Bad number why) room = Unit
 
 -- the keys that are counted are those that are left
-abbrev Counts : KeysAnswer → (keys : List ℕ) → Type 0
+abbrev pub Counts : KeysAnswer → (keys : List ℕ) → Type 0
 Counts (Read count) keys = count ≡ length keys
 Counts (Bad number why) keys = Unit
 
@@ -39,7 +39,7 @@ after-line size number keys (line.Key key) next go = by (eqb (length keys) size)
     by false true = tt
     by false false = go (keys ++ key ∷ [])
 
-all-lines : (size number : ℕ) (keys : List ℕ) (lines : List (List ℕ))
+pub all-lines : (size number : ℕ) (keys : List ℕ) (lines : List (List ℕ))
     → let t = readLines size number keys lines in
     Counts (t .answer) (t .leaves)
 unfolding readLines
