@@ -91,7 +91,7 @@ extern "C" {
 
 /*
  * Is the key in the list? GP_YES for every key that the list was built from; otherwise mostly GP_NO.
- * Reads the first 20 bytes of the descriptor. GP_REFUSED plus 7, 8, 9, 10 or 11, checked in this order, if the list is none.
+ * Reads the first 20 bytes of the descriptor. GP_REFUSED plus 7, 8, 9, 10 or 11, checked in this order, where the bytes are no list.
  */
 uint32_t gp_fuse8_contains(const uint8_t *descriptor, size_t descriptor_length, const uint8_t *fingerprints,
                            size_t fingerprints_length, uint64_t key);

@@ -1,9 +1,9 @@
--- Document 01, "What the promises say": these must not fit. Whatever program answers as `contains` promises does not always say yes, nor always no, nor
--- refuse every question. Assumes nothing.
-use mathlib.Core.Path.{_≡_, refl, sym, _∙_}
+-- Document 01, "What the promises say": these must not fit. Whatever program answers as `contains` promises does not refuse every question, and where it
+-- answers it does not always say yes, nor always no. Assumes nothing.
+use mathlib.Core.Path.{_≡_, refl, _∙_}
 use mathlib.Core.Bool.{Bool, true, false}
 use mathlib.Core.List.{List}
-use Prim.Native.Nat.{ℕ, _-_, _^_}
+use Prim.Native.Nat.{ℕ, _-_, _^_, _<_}
 use native.Mathlib.Omega.{arith}
 use lib.ListN.{replicate}
 use Rattle.answers.specs.Answers.{Answer, gives}
@@ -29,15 +29,19 @@ pub asked : Asked
 unfolding containsOf leftOver queryXor checkOf isLength badCount xorshift times mix64Of hashOf fingerprintOf slot0 slot1 slot2
 asked = record { last-key = refl; first-key = refl }
 
+-- keys have 64 bits
 module _ (program : Descriptor → (fingerprints : List ℕ) (key : ℕ) → Answer Bool)
-    (fits : (d : Descriptor) (fingerprints : List ℕ) (key : ℕ) → program d fingerprints key ≡ containsOf 8 d fingerprints key) where
-  -- its answers are not all the same, so it does not always say yes, or no
-  pub not-one-answer : (a : Answer Bool) → ((d : Descriptor) (fingerprints : List ℕ) (key : ℕ) → program d fingerprints key ≡ a) → ⊥
-  not-one-answer a one =
-      let yes = sym (fits list (replicate 12 0) (2 ^ 64 - 1) ∙ asked .last-key) ∙ one list (replicate 12 0) (2 ^ 64 - 1) in
-      let no = sym (fits list (replicate 12 0) 0 ∙ asked .first-key) ∙ one list (replicate 12 0) 0 in
-      absurd (let z : _≡_ {A = ℕ} 0 1 = cc in omega arith)
+    (fits : (d : Descriptor) (fingerprints : List ℕ) (key : ℕ) → key < 2 ^ 64 → program d fingerprints key ≡ containsOf 8 d fingerprints key) where
+  -- this is so of every answer that is no refusal
+  abbrev OfEach : (Bool → Type 0) → Type 0
+  OfEach rule = (d : Descriptor) (fingerprints : List ℕ) (key : ℕ) (answer : Bool) → key < 2 ^ 64 → program d fingerprints key ≡ gives answer → rule answer
 
-  -- and of a good list both occur, so it does not refuse every question
-  pub some-question-answered : ((d : Descriptor) (fingerprints : List ℕ) (key : ℕ) (answer : Bool) → program d fingerprints key ≡ gives answer → ⊥) → ⊥
-  some-question-answered none = none list (replicate 12 0) 0 false (fits list (replicate 12 0) 0 ∙ asked .first-key)
+  pub some-question-answered : OfEach (λ answer. ⊥) → ⊥
+  some-question-answered none = none list (replicate 12 0) 0 false (omega arith) (fits list (replicate 12 0) 0 (omega arith) ∙ asked .first-key)
+
+  -- not always yes, and not always no
+  pub not-always : (always : Bool) → OfEach (λ answer. answer ≡ always) → ⊥
+  not-always always one =
+      let yes = one list (replicate 12 0) (2 ^ 64 - 1) true (omega arith) (fits list (replicate 12 0) (2 ^ 64 - 1) (omega arith) ∙ asked .last-key) in
+      let no = one list (replicate 12 0) 0 false (omega arith) (fits list (replicate 12 0) 0 (omega arith) ∙ asked .first-key) in
+      absurd (let z : _≡_ {A = ℕ} 0 1 = cc in omega arith)

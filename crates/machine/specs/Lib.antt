@@ -11,7 +11,6 @@ pub mod Standing
 pub mod Start
 pub mod CompleteRun
 pub mod Picks
-pub mod OneAttempt
 pub mod SumsByKey
 pub mod SumsBounded
 pub mod Loop

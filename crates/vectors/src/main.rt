@@ -1,8 +1,4 @@
-// Published vectors of the two hashes, computed by our code and held to the file `stdout`, where they stand as published:
-// - splitmix64 from state 1234567: Rosetta Code, "Pseudo-random numbers/Splitmix64".
-// - splitmix64 from state 1477776061723855037: the test of `SplitMix64` in the Rust crate rand_xoshiro, made with Vigna's C.
-// - MurmurHash3 (x64, 128 bits) of short texts: `Murmur3Hash128Test` of Google's Guava. A text of at most eight bytes is one
-//   word; two runs of fmix64, our `mix64`, finish it.
+// Published vectors of the two hashes, computed by our code and held to the file `stdout`, where they stand as published.
 
 // Prints the generator's next output, and answers its next state.
 fn splitmix64(state: u64) -> u64 {
@@ -20,7 +16,8 @@ fn five_outputs(start: u64) {
     splitmix64(fourth);
 }
 
-// MurmurHash3's 128 bits of a text of `size` bytes, at most eight, whose little-endian number is `text`.
+// MurmurHash3's 128 bits (x64) of a text of `size` bytes, at most eight, whose little-endian number is `text`. So short a text is one word,
+// and two runs of fmix64, our `mix64`, finish it.
 fn murmur3(text: u64, size: u64, seed: u64) {
     let scattered = words::wrapping_mul(text, 0x87c3_7b91_1142_53d5);
     let turned = (scattered << 31) | (scattered >> 33);
@@ -37,6 +34,8 @@ fn murmur3(text: u64, size: u64, seed: u64) {
     printing::line_end();
 }
 
+// splitmix64 from state 1234567: Rosetta Code, "Pseudo-random numbers/Splitmix64"; from state 1477776061723855037: the test of `SplitMix64`
+// in the Rust crate rand_xoshiro, made with Vigna's C. MurmurHash3: `Murmur3Hash128Test` of Google's Guava.
 fn main() {
     printing::text(b"splitmix64 from state 1234567\n");
     five_outputs(1234567);
