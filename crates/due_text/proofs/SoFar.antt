@@ -11,10 +11,11 @@ use lib.Seq.{length-take-le, take-length, drop-drop, take-suc-set, drop-set-lt}
 use borrow.Author.Tests.{eq-eqb, ne-eqb}
 use Rattle.answers.specs.declared.Refusal.the-variants.{RepeatedKeys}
 use Rattle.bytes.specs.Bytes.{indexOf, slice}
+use Rattle.repeats.specs.Repeats.{among?}
 use Rattle.due_text.specs.Cut.{cut, newline?, linesOf}
 use Rattle.due_text.specs.Runs.{run}
 use Rattle.due_text.specs.Line.{lineOf}
-use Rattle.due_text.specs.Keys.{KeysOutcome, keysOutcome, listed?, afterLine, readLines, inRoom, keysOf}
+use Rattle.due_text.specs.Keys.{KeysOutcome, keysOutcome, afterLine, readLines, inRoom, keysOf}
 use Rattle.due_text.specs.declared.line.Fault.{Fault}
 use Rattle.due_text.specs.declared.line.Fault.the-variants.{Refused, TooManyKeys}
 use Rattle.due_text.specs.declared.line.Line.{Line}
@@ -110,10 +111,10 @@ module _ {text room₀ room : List ℕ} {at number count : ℕ} (s : SoFar text 
         not-full : count ≡ length room₀ → ⊥
         not-full e = omega (arith, s .same-room)
 
-        pub repeated : listed? key (take count room) ≡ true → keysOutcome (Bad (number + 1) (Refused RepeatedKeys)) room ≡ keysOf text room₀
+        pub repeated : among? key (take count room) ≡ true → keysOutcome (Bad (number + 1) (Refused RepeatedKeys)) room ≡ keysOf text room₀
         repeated l = stops (rw (length-take-le count room (s .places), ne-eqb count (length room₀) not-full, l) at (turn r))
 
-        pub after-key : listed? key (take count room) ≡ false → SoFar text room₀ (set room count key) next (number + 1) (count + 1)
+        pub after-key : among? key (take count room) ≡ false → SoFar text room₀ (set room count key) next (number + 1) (count + 1)
         after-key l =
             record {
               few = omega (arith, s .few);

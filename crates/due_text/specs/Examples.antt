@@ -6,10 +6,11 @@ use mathlib.Core.List.{List, [], _∷_}
 use Rattle.answers.specs.declared.Refusal.the-variants.{RepeatedKeys}
 use Rattle.flush.specs.FlushKey.{flushKeyOf, keyAtHour}
 use Rattle.due_text.specs.Decimal.{allDigits, valueFrom, fitting, numberOf}
+use Rattle.repeats.specs.Repeats.{among?}
 use Rattle.due_text.specs.Cut.{cut, beforeComment}
 use Rattle.due_text.specs.Clock.{clockOf}
 use Rattle.due_text.specs.Line.{plainOf, dueAtUnit, dueOf, lineOf}
-use Rattle.due_text.specs.Keys.{keysOutcome, listed?, readLines, keysOf}
+use Rattle.due_text.specs.Keys.{keysOutcome, readLines, keysOf}
 use Rattle.due_text.specs.declared.line.Fault.the-variants.{NotNumber, WordCount, Refused, TooManyKeys}
 use Rattle.due_text.specs.declared.line.Line.the-variants as line
 use Rattle.due_text.specs.declared.keys.KeysAnswer.the-variants.{Read, Bad}
@@ -33,13 +34,13 @@ text : (last : ℕ) → List ℕ
 text last = 53 ∷ 10 ∷ 10 ∷ 32 ∷ last ∷ []
 
 two-keys : keysOf (text 54) (1 ∷ 2 ∷ 3 ∷ []) ≡ keysOutcome (Read 2) (5 ∷ 6 ∷ 3 ∷ [])
-unfolding text keysOf readLines listed? lineOf beforeComment cut plainOf numberOf allDigits valueFrom fitting
+unfolding text keysOf readLines among? lineOf beforeComment cut plainOf numberOf allDigits valueFrom fitting
 two-keys = refl
 
 no-place : keysOf (text 54) (1 ∷ []) ≡ keysOutcome (Bad 3 TooManyKeys) (5 ∷ [])
-unfolding text keysOf readLines listed? lineOf beforeComment cut plainOf numberOf allDigits valueFrom fitting
+unfolding text keysOf readLines among? lineOf beforeComment cut plainOf numberOf allDigits valueFrom fitting
 no-place = refl
 
 again : keysOf (text 53) (1 ∷ 2 ∷ 3 ∷ []) ≡ keysOutcome (Bad 3 (Refused RepeatedKeys)) (5 ∷ 2 ∷ 3 ∷ [])
-unfolding text keysOf readLines listed? lineOf beforeComment cut plainOf numberOf allDigits valueFrom fitting
+unfolding text keysOf readLines among? lineOf beforeComment cut plainOf numberOf allDigits valueFrom fitting
 again = refl

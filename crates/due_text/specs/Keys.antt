@@ -1,11 +1,12 @@
 -- The keys of a text of due flushes, line by line: each goes behind those before it, and the first line that is bad ends the
 -- reading. This project's own format; document 01 has none. Assumes nothing.
 use Prim.Native.Nat.{ℕ, _+_}
-use mathlib.Core.Bool.{Bool, false, cond, _||_}
+use mathlib.Core.Bool.{cond}
 use mathlib.Core.List.{List, [], _∷_, _++_}
 use lib.ListN.{length, drop}
 use lib.Dec.{eqb}
 use Rattle.answers.specs.declared.Refusal.the-variants.{RepeatedKeys}
+use Rattle.repeats.specs.Repeats.{among?}
 use Rattle.due_text.specs.Cut.{linesOf}
 use Rattle.due_text.specs.Line.{lineOf}
 use Rattle.due_text.specs.declared.line.Fault.the-variants.{Refused, TooManyKeys}
@@ -22,17 +23,13 @@ pub record KeysOutcome : Type 0 where
 abbrev pub keysOutcome : KeysAnswer → List ℕ → KeysOutcome
 keysOutcome a l = record { answer = a; leaves = l }
 
-unfoldable pub listed? : ℕ → List ℕ → Bool
-listed? key [] = false
-listed? key (other ∷ keys) = eqb other key || listed? key keys
-
 -- one line, with this number, after these keys: `next` goes on, unless the line is bad, the room full or the key listed already
 abbrev pub afterLine : (size number : ℕ) (keys : List ℕ) → Line → (next : List ℕ → KeysOutcome) → KeysOutcome
 afterLine size number keys line.Blank next = next keys
 afterLine size number keys (line.Bad why) next = keysOutcome (Bad number why) keys
 afterLine size number keys (line.Key key) next =
     cond (eqb (length keys) size) (keysOutcome (Bad number TooManyKeys) keys)
-    (cond (listed? key keys) (keysOutcome (Bad number (Refused RepeatedKeys)) keys) (next (keys ++ key ∷ [])))
+    (cond (among? key keys) (keysOutcome (Bad number (Refused RepeatedKeys)) keys) (next (keys ++ key ∷ [])))
 
 -- the lines to come, the first of which has this number, after these keys; there is room for `size` keys in all
 unfoldable pub readLines : (size number : ℕ) (keys : List ℕ) (lines : List (List ℕ)) → KeysOutcome

@@ -7,9 +7,10 @@ use native.Mathlib.Omega.{arith}
 use lib.ListN.{length, drop, length-append}
 use lib.Dec.{eqb}
 use Rattle.answers.specs.declared.Refusal.the-variants.{RepeatedKeys}
+use Rattle.repeats.specs.Repeats.{among?}
 use Rattle.due_text.specs.Cut.{linesOf}
 use Rattle.due_text.specs.Line.{lineOf}
-use Rattle.due_text.specs.Keys.{KeysOutcome, keysOutcome, listed?, afterLine, readLines, keysOf}
+use Rattle.due_text.specs.Keys.{KeysOutcome, keysOutcome, afterLine, readLines, keysOf}
 use Rattle.due_text.specs.declared.line.Fault.the-variants.{Refused, TooManyKeys}
 use Rattle.due_text.specs.declared.line.Line.{Line}
 use Rattle.due_text.specs.declared.line.Line.the-variants as line
@@ -30,7 +31,7 @@ after-line : (size number : ℕ) (keys : List ℕ) (l : Line) (next : List ℕ �
     Counts (t .answer) (t .leaves)
 after-line size number keys line.Blank next go = go keys
 after-line size number keys (line.Bad why) next go = tt
-after-line size number keys (line.Key key) next go = by (eqb (length keys) size) (listed? key keys)
+after-line size number keys (line.Key key) next go = by (eqb (length keys) size) (among? key keys)
   where
     by : (full again : Bool)
         → let t = cond full (keysOutcome (Bad number TooManyKeys) keys) (cond again (keysOutcome (Bad number (Refused RepeatedKeys)) keys) (next (keys ++ key ∷ []))) in

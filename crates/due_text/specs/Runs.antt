@@ -2,7 +2,7 @@
 -- these. Assumes nothing.
 use Prim.Native.Nat.{ℕ, suc, _-_, _≤_}
 use mathlib.Core.Path.{_≡_}
-use mathlib.Core.Bool.{Bool, not, cond}
+use mathlib.Core.Bool.{Bool, true, false, not, cond}
 use mathlib.Core.List.{List, [], _∷_}
 use lib.ListN.{length, take, drop}
 use lib.Dec.{eqb}
@@ -15,6 +15,11 @@ run stops (byte ∷ rest) = cond (stops byte) 0 (suc (run stops rest))
 
 abbrev pub solid? : ℕ → Bool
 solid? byte = not (blank? byte)
+
+-- a run of blank bytes stops at a solid one, a run of solid bytes at a blank one
+abbrev pub stops? : (blank : Bool) (byte : ℕ) → Bool
+stops? true byte = solid? byte
+stops? false byte = blank? byte
 
 -- the words from a place on: none where the next one starts at its end, else that one and those behind it
 pub record NextWord (line : List ℕ) (at start end : ℕ) : Type 0 where

@@ -2,11 +2,12 @@
 ghost use mathlib.Core.Path.{_≡_};
 ghost use Prim.Native.Nat.{_+_, _≤_, min};
 ghost use lib.ListN.{length};
-ghost use Rattle.due_text.specs.Keys.{keysOutcome, keysOf, listed?};
+ghost use Rattle.due_text.specs.Keys.{keysOutcome, keysOf};
 use crate::line;
 use crate::line::Fault;
 use crate::line::Line;
 use answers::Refusal;
+use repeats::among;
 
 pub enum KeysAnswer {
     // How many keys were read.
@@ -32,7 +33,8 @@ pub fn read(text: &[u8], room: &mut [u64]) -> KeysAnswer
                 if count == room.len() {
                     return KeysAnswer::Bad(number, Fault::TooManyKeys);
                 }
-                if listed(&room[..count], key) {
+                // A build would refuse it too, but could not say on which line it is.
+                if among(key, &room[..count], 0) {
                     return KeysAnswer::Bad(number, Fault::Refused(Refusal::RepeatedKeys));
                 }
                 room[count] = key;
@@ -43,20 +45,6 @@ pub fn read(text: &[u8], room: &mut [u64]) -> KeysAnswer
         at = past(text, end);
     }
     KeysAnswer::Read(count)
-}
-
-// Whether a key is listed already. A build would refuse it too, but could not say on which line it is.
-fn listed(keys: &[u64], key: u64) -> bool
-    ensures { λ r. ⌜ r ≡ listed? key (now (keys .entry)) ⌝ }
-{
-    let mut i = 0;
-    while i < keys.len() {
-        if keys[i] == key {
-            return true;
-        }
-        i += 1;
-    }
-    false
 }
 
 // The place after a line's end.

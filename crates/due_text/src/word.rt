@@ -3,7 +3,7 @@ ghost use mathlib.Core.Path.{_≡_};
 ghost use Prim.Native.Nat.{_+_, _≤_};
 ghost use lib.ListN.{length, drop};
 ghost use Rattle.due_text.specs.Cut.{blank?};
-ghost use Rattle.due_text.specs.Runs.{run, solid?, NextWord};
+ghost use Rattle.due_text.specs.Runs.{run, stops?, NextWord};
 
 pub struct Word {
     pub start: usize,
@@ -15,8 +15,8 @@ pub fn next(text: &[u8], at: usize) -> Word
     requires { ⌜ at ≤ length (now text) ⌝ }
     ensures { λ r. ⌜ NextWord (now (text .entry)) at (r .start) (r .end) ⌝ }
 {
-    let start = past_blanks(text, at);
-    let end = past_word(text, start);
+    let start = past(text, at, true);
+    let end = past(text, start, false);
     Word { start, end }
 }
 
@@ -35,29 +35,24 @@ fn is_blank(byte: u8) -> bool
     byte == b'\n'
 }
 
-// The first place from `at` on whose byte is not blank, or the text's end.
-fn past_blanks(text: &[u8], at: usize) -> usize
-    requires { ⌜ at ≤ length (now text) ⌝ }
-    ensures { λ r. ⌜ r ≡ at + run solid? (drop at (now (text .entry))) ⌝ }
+// Whether a run, of blank bytes or of others, stops at a byte.
+fn stops(byte: u8, blank: bool) -> bool
+    ensures { λ r. ⌜ r ≡ stops? blank byte ⌝ }
 {
-    let mut i = at;
-    while i < text.len() {
-        if !is_blank(text[i]) {
-            return i;
-        }
-        i += 1;
+    if blank {
+        return !is_blank(byte);
     }
-    i
+    is_blank(byte)
 }
 
-// The first place from `at` on whose byte is blank, or the text's end.
-fn past_word(text: &[u8], at: usize) -> usize
+// The place from `at` on where a run stops, or the text's end.
+fn past(text: &[u8], at: usize, blank: bool) -> usize
     requires { ⌜ at ≤ length (now text) ⌝ }
-    ensures { λ r. ⌜ r ≡ at + run blank? (drop at (now (text .entry))) ⌝ }
+    ensures { λ r. ⌜ r ≡ at + run (stops? blank) (drop at (now (text .entry))) ⌝ }
 {
     let mut i = at;
     while i < text.len() {
-        if is_blank(text[i]) {
+        if stops(text[i], blank) {
             return i;
         }
         i += 1;

@@ -15,7 +15,7 @@ use Rattle.repeats.specs.Repeats.{among?, repeats?, Twice}
 
 -- ---- true exactly when two places hold equal keys
 
-among-at : (key : ℕ) (keys : List ℕ) (i : ℕ) → i < length keys → getD keys i 0 ≡ key → among? key keys ≡ true
+pub among-at : (key : ℕ) (keys : List ℕ) (i : ℕ) → i < length keys → getD keys i 0 ≡ key → among? key keys ≡ true
 unfolding among?
 among-at key [] i h e = absurd (not-suc-le-zero h)
 among-at key (other ∷ keys) zero h e = rw (eq-eqb other key e)

@@ -42,15 +42,15 @@ returns c =
     let l = r .before .before .before in
     no-place (l .before .loop .inv) (l .loop-test .taken) (r .before .before .find .ensures .0) (sym (c .before .before .said .given .1) ∙ r .read .ensures) (omega arith)
 
-slice-aggregate-listed : tie.Need-slice-aggregate-listed Inv-loop μ-loop
-slice-aggregate-listed c = sym (length-take-le _ _ (search needs))
+slice-aggregate-among : tie.Need-slice-aggregate-among Inv-loop μ-loop
+slice-aggregate-among c = sym (length-take-le _ _ (search needs))
 
 returns-2 : tie.Need-returns-2 Inv-loop μ-loop
 returns-2 c =
     let r : tie.After-read Inv-loop μ-loop = c .before .before .before .before .before .before .before in
     let l = r .before .before .before in
     repeated (l .before .loop .inv) (l .loop-test .taken) (r .before .before .find .ensures .0) (sym (c .before .before .before .before .before .said .given .1) ∙ r .read .ensures)
-    (omega arith) (sym (c .before .listed .ensures) ∙ c .if2 .taken)
+    (omega arith) (sym (c .before .among .ensures) ∙ c .if2 .taken)
 
 returns-3 : tie.Need-returns-3 Inv-loop μ-loop
 returns-3 c =
@@ -71,7 +71,7 @@ read-spec =
     Inv-loop μ-loop loop-holds
     (λ c κs. search needs) (λ c. search needs) (λ c. search needs) (λ c. search needs) (λ c. search needs) (λ c κs. search needs) (λ c. search needs)
     (λ c. search needs) (λ c. search needs) returns
-    (λ c. search needs) slice-aggregate-listed
+    (λ c. search needs) slice-aggregate-among
     (λ c κs. search needs) (λ c. search needs) returns-2
     (λ c. search needs) (λ c. search needs) (λ c. search needs) (λ c. search needs) (λ c. search needs) returns-3
     (λ c κs. search needs) (λ c. search needs) loop-again

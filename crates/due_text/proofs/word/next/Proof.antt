@@ -8,13 +8,13 @@ use Rattle.due_text.proofs.NextWords.{next-word}
 use Rattle.due_text.proofs.word.next.Statement.{statement}
 use Rattle.due_text.proofs.word.next.Tie as tie
 
-past-word-requires : tie.Need-past-word-requires
-past-word-requires c κs =
+past-requires : tie.Need-past-requires-2
+past-requires c κs =
     let a = c .before .before .args in
     omega (arith, run-within solid? (drop (a .at) (a .text .now)), length-drop (a .at) (a .text .now))
 
 returns : tie.Need-returns
-returns c = next-word _ _ _ _ (c .before .before .before .pre) (c .before .past-blanks .ensures) (c .past-word .ensures)
+returns c = next-word _ _ _ _ (c .before .before .before .pre) (c .before .past .ensures) (c .past2 .ensures)
 
 pub next-spec : {M : Type 1} → statement M
-next-spec = tie.close (tie.spec (λ c κs. search needs) past-word-requires returns)
+next-spec = tie.close (tie.spec (λ c κs. search needs) past-requires returns)
