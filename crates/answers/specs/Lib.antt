@@ -3,3 +3,4 @@ pub mod Checks
 pub mod Passed
 pub mod OneNumber
 pub mod OneAnswer
+pub mod Never

@@ -8,6 +8,7 @@ use native.Mathlib.Omega.{arith}
 use borrow.Author.Tests.{le-ltb}
 use lib.ListN.{length, take, getD, length-append}
 use Rattle.answers.specs.Answers.{Answer, refuses, gives, Outcome}
+use Rattle.answers.specs.Never.{never}
 use Rattle.answers.specs.Checks.{Done, done, unlessRefused}
 use Rattle.arith.specs.SeedBound.{seed-lt}
 use Rattle.capacity.specs.Capacity.{maxKeys}
@@ -51,9 +52,6 @@ attempt-sized {n} i few =
 module _ (w : ℕ) (keys : List ℕ) (m : Memory) where
   abbrev Named : Answer Success → Type 0
   Named answer = (s : Success) → answer ≡ gives s → s ≡ success (descriptorAt (length keys) (s .attempt)) (slotCountOf (length keys)) (s .attempt)
-
-  never : {X : Type 0} → _≡_ {A = ℕ} 0 1 → X
-  never z = absurd (omega arith)
 
   found-named : (found : ℕ) → Named (foundOutcome w keys found m .answer)
   found-named zero s e = never (cc)

@@ -8,6 +8,7 @@ use native.Mathlib.Omega.{arith}
 use lib.ListN.{length, take}
 use lib.Seq.{take-at}
 use Rattle.answers.specs.Answers.{Answer, refuses, gives, Outcome}
+use Rattle.answers.specs.Never.{never}
 use Rattle.answers.specs.Checks.{Done, done, unlessRefused}
 use Rattle.capacity.specs.Capacity.{maxKeys}
 use Rattle.layout.specs.Layout.{slotCountOf}
@@ -55,9 +56,6 @@ data Kind (w : ℕ) (keys : List ℕ) (first last : ℕ) (checks : Answer Done) 
       → Kind w keys first last checks (refuses 6) f
   some : {f : List ℕ} (k : ℕ) → checks ≡ gives done → length keys ≤ maxKeys → repeats? keys ≡ false → FirstFree (free keys) first (last + 1 - first) k
       → take (slotCountOf (length keys)) f ≡ fingerprintsAt w keys k → Kind w keys first last checks (gives (success (descriptorAt (length keys) k) (slotCountOf (length keys)) k)) f
-
-never : {X : Type 0} → _≡_ {A = ℕ} 0 1 → X
-never z = absurd (omega arith)
 
 not-twice : (keys : List ℕ) → repeats? keys ≡ false → Twice keys → ⊥
 not-twice keys e w = let t = repeats-iff keys .1 w in never (cc)

@@ -8,6 +8,7 @@ use native.Mathlib.Omega.{arith}
 use lib.ListN.{length, drop, replicate, length-replicate}
 use lib.Seq.{take-at, drop-at}
 use Rattle.answers.specs.Answers.{Answer, refuses, gives, Outcome}
+use Rattle.answers.specs.Never.{never}
 use Rattle.answers.specs.Checks.{Done, done, unlessRefused}
 use Rattle.layout.specs.Layout.{slotCountOf, bucketStartsOf}
 use Rattle.repeats.specs.Repeats.{repeats?}
@@ -36,34 +37,28 @@ each n rule =
       of-starts = rule _ _;
     }
 
-never : {X : Type 0} → _≡_ {A = ℕ} 0 1 → X
-never z = absurd (omega arith)
-
 module _ (w : ℕ) (keys : List ℕ) (m : Memory) where
   abbrev n : ℕ
   n = length keys
 
-  scratch-is-zeroed : (f : List ℕ) → EachScratch n (λ needed buffer. ZeroedUpTo needed (buffer (scratchZeroed n m f)))
-  scratch-is-zeroed f =
+  -- what zeroing makes of every buffer it makes of each
+  scratch-is : (P : (needed : ℕ) (before after : List ℕ) → Type 0) → ((needed : ℕ) (before : List ℕ) → P needed before (zeroed needed before))
+      → (f : List ℕ) → EachScratch n (λ needed buffer. P needed (buffer m) (buffer (scratchZeroed n m f)))
+  scratch-is P rule f =
       record {
-        of-lone = zeroed-up-to (slotCountOf n) (m .lone);
-        of-counts = zeroed-up-to (slotCountOf n) (m .counts);
-        of-sums = zeroed-up-to (slotCountOf n) (m .sums);
-        of-positions = zeroed-up-to n (m .positions);
-        of-order = zeroed-up-to (n + 1) (m .order);
-        of-starts = zeroed-up-to (bucketStartsOf n) (m .starts);
+        of-lone = rule (slotCountOf n) (m .lone);
+        of-counts = rule (slotCountOf n) (m .counts);
+        of-sums = rule (slotCountOf n) (m .sums);
+        of-positions = rule n (m .positions);
+        of-order = rule (n + 1) (m .order);
+        of-starts = rule (bucketStartsOf n) (m .starts);
       }
 
+  scratch-is-zeroed : (f : List ℕ) → EachScratch n (λ needed buffer. ZeroedUpTo needed (buffer (scratchZeroed n m f)))
+  scratch-is-zeroed = scratch-is (λ needed before after. ZeroedUpTo needed after) zeroed-up-to
+
   scratch-is-kept : (f : List ℕ) → EachScratch n (λ needed buffer. KeptBeyond needed (buffer m) (buffer (scratchZeroed n m f)))
-  scratch-is-kept f =
-      record {
-        of-lone = kept-beyond (slotCountOf n) (m .lone);
-        of-counts = kept-beyond (slotCountOf n) (m .counts);
-        of-sums = kept-beyond (slotCountOf n) (m .sums);
-        of-positions = kept-beyond n (m .positions);
-        of-order = kept-beyond (n + 1) (m .order);
-        of-starts = kept-beyond (bucketStartsOf n) (m .starts);
-      }
+  scratch-is-kept = scratch-is KeptBeyond kept-beyond
 
   refused-early : (k : ℕ) → k ≤ 4 → Leaves w keys m (refuses k) m
   refused-early k small =
@@ -108,7 +103,7 @@ module _ (w : ℕ) (keys : List ℕ) (m : Memory) where
         fingerprints-zeroed = λ e. never (cc);
         fingerprints-written = λ s e.
             let z : success (descriptorAt n (suc k)) (slotCountOf n) (suc k) ≡ s = cc in
-            rw (← z) (take-at (fingerprintsAt w keys (suc k)) (drop (slotCountOf n) (m .fingerprints)) (slotCountOf n) all);
+            rw (← z) (take-at (fingerprintsAt w keys (suc k)) _ (slotCountOf n) all);
         scratch-zeroed = λ later. scratch-is-zeroed _;
         fingerprints-beyond = drop-at (fingerprintsAt w keys (suc k)) (drop (slotCountOf n) (m .fingerprints)) (slotCountOf n) all;
         scratch-beyond = scratch-is-kept _;
