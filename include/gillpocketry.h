@@ -6,7 +6,7 @@
  * they keep nothing and touch no memory but what they are lent.
  *
  * Link with target/staticlib/libc_api.a, which `rt staticlib c_api` makes. Of the C library it needs memset alone, so no -lm.
- * Stack, as measured: a build takes 8.6 KB, most of it a copy of a table, the other two less than 100 bytes.
+ * Stack, as measured: a build takes 8.5 KB, most of it a copy of a table, the other two less than 100 bytes.
  *
  * Lent memory: each buffer is a pointer and its number of elements (not of bytes). The pointer is aligned for its element and may
  * be null where the number is 0. Buffers that are written overlap no other buffer of the same call.

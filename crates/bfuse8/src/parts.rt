@@ -48,7 +48,8 @@ fn finish(
     BuildAnswer::Built(d, slots, found)
 }
 
-// The search, its end, and the scratch zeroed, on buffers of exactly the needed lengths.
+// The search, its end, and the scratch zeroed, on buffers of exactly the needed lengths. The bucket starts are only zeroed: no attempt
+// looks at them.
 fn on_parts(
     keys: &[u64],
     first: u32,
@@ -64,17 +65,7 @@ fn on_parts(
     requires { ⌜ CanBuild (now keys) first last (now fingerprints) (now lone) (now counts) (now sums) (now positions) (now order) (now starts) ⌝ }
     ensures { λ r. ⌜ Ran 8 (now (keys .entry)) first last (paper r) (now (fingerprints .entry)) (memory (now (fingerprints .exit)) (now (lone .exit)) (now (counts .exit)) (now (sums .exit)) (now (positions .exit)) (now (order .exit)) (now (starts .exit))) ⌝ }
 {
-    let found = search(
-        keys,
-        first,
-        last,
-        lone,
-        counts,
-        sums,
-        positions,
-        order,
-        starts,
-    );
+    let found = search(keys, first, last, lone, counts, sums, positions, order);
     let answer = finish(keys, found, fingerprints, &positions[..], order);
     clear_scratch(lone, counts, sums, positions, order, starts);
     answer
@@ -112,7 +103,7 @@ pub fn within(
         CheckAnswer::Refused(why) => BuildAnswer::Refused(why),
         CheckAnswer::Good => {
             let slots = slots_for(n as u32) as usize;
-            let buckets = bucket_starts(n as u32) as usize;
+            let needed = bucket_starts(n as u32) as usize;
             let places = n + 1;
             on_parts(
                 keys,
@@ -124,7 +115,7 @@ pub fn within(
                 &mut sums[..slots],
                 &mut positions[..n],
                 &mut order[..places],
-                &mut starts[..buckets],
+                &mut starts[..needed],
             )
         }
     }

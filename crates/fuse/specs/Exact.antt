@@ -16,7 +16,7 @@ pub record Exact (n : ℕ) (lone counts sums positions order starts : List ℕ) 
   pub order-length : length order ≡ n + 1
   pub starts-length : length starts ≡ bucketStartsOf n
 
--- what one attempt asks
+-- the same for keys up to `maxKeys`
 pub record CanTry (keys lone counts sums positions order starts : List ℕ) : Type 0 where
   pub few : length keys ≤ maxKeys
   pub exact : Exact (length keys) lone counts sums positions order starts

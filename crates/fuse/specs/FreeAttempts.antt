@@ -48,10 +48,6 @@ module _ {n : ℕ} (i : ℕ) (few : n ≤ maxKeys) where
         numbered = omega (arith, f .small, same-slots n i);
       }
 
-  pub segments-counted : segmented .segments ≡ layoutOf n i .«segment_count»
-  unfolding segmented
-  segments-counted = refl
-
   pub attempt-length : fingerprintsFor (descriptorAt n i) ≡ slotCountOf n
   unfolding descriptorAt
   attempt-length = layout-fits i few .whole ∙ same-slots n i

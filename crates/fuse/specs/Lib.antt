@@ -4,6 +4,8 @@ pub mod Memory
 pub mod Build
 pub mod Exact
 pub mod Search
+pub mod Seek
+pub mod SeekLaws
 pub mod Demand
 pub mod FreeAttempts
 pub mod FirstFree

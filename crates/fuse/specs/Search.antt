@@ -1,5 +1,5 @@
--- Document 01, module 8: "Counting from attempt 1, the first attempt at which nothing is stuck ends the search". What the search over the
--- attempts `first` to `last` asks and promises, on scratch of exactly the needed lengths. Assumes nothing.
+-- Document 01, module 8: "Counting from attempt 1, the first attempt at which nothing is stuck ends the search". What a build asks for
+-- its search over the attempts `first` to `last`, on scratch of exactly the needed lengths, and what the search promises. Assumes nothing.
 use mathlib.Core.Path.{_≡_}
 use mathlib.Core.Bool.{true}
 use mathlib.Core.List.{List}

@@ -5,7 +5,7 @@ ghost use Rattle.capacity.specs.Capacity.{maxKeys};
 ghost use Rattle.layout.specs.Layout.{slotCountOf};
 ghost use Rattle.peel.specs.Buffers.{picksIn};
 ghost use Rattle.fuse.specs.Attempts.{descriptorAt, picksAt};
-ghost use Rattle.fuse.specs.Exact.{CanTry};
+ghost use Rattle.fuse.specs.Seek.{CanAttempt};
 use arith::splitmix64::seed;
 use descriptor::Descriptor;
 use layout::layout_at;
@@ -45,9 +45,8 @@ pub fn try_attempt(
     sums: &mut [u64],
     positions: &mut [u8],
     order: &mut [u64],
-    starts: &mut [u32],
 ) -> usize
-    requires { ⌜ CanTry (now keys) (now lone) (now counts) (now sums) (now positions) (now order) (now starts) ⌝ }
+    requires { ⌜ CanAttempt (now keys) (now lone) (now counts) (now sums) (now positions) (now order) ⌝ }
     ensures { λ r. ⌜ picksIn r (now (order .exit)) (now (positions .exit)) ≡ picksAt (now (keys .entry)) number ⌝ }
 {
     let d = descriptor_at(keys.len() as u32, number);
@@ -57,7 +56,6 @@ pub fn try_attempt(
     let span = d.segment_count_length;
     clear_u16(counts);
     clear_u64(sums);
-    clear_u64(order);
     peel::run(
         keys,
         seed,
@@ -69,6 +67,5 @@ pub fn try_attempt(
         sums,
         order,
         positions,
-        starts,
     )
 }

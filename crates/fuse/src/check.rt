@@ -14,11 +14,11 @@ use layout::bucket_starts;
 // An attempt limit or number is at most this.
 pub const MAX_ATTEMPTS: u32 = 1000;
 
-// Whether a scratch buffer is too short for n keys, which take so many slots and so many bucket starts.
+// Whether a scratch buffer is too short for n keys, which ask for `slots` slots and `needed` bucket starts.
 fn short(
     n: usize,
     slots: usize,
-    buckets: usize,
+    needed: usize,
     lone: usize,
     counts: usize,
     sums: usize,
@@ -26,7 +26,7 @@ fn short(
     order: usize,
     starts: usize,
 ) -> bool
-    requires { ⌜ (n ≤ maxKeys) × (slots ≡ slotCountOf n) × (buckets ≡ bucketStartsOf n) ⌝ }
+    requires { ⌜ (n ≤ maxKeys) × (slots ≡ slotCountOf n) × (needed ≡ bucketStartsOf n) ⌝ }
     ensures { λ r. ⌜ r ≡ short? n lone counts sums positions order starts ⌝ }
 {
     (lone < slots)
@@ -34,7 +34,7 @@ fn short(
         | (sums < slots)
         | (positions < n)
         | (order < n + 1)
-        | (starts < buckets)
+        | (starts < needed)
 }
 
 pub fn check(
@@ -60,11 +60,11 @@ pub fn check(
     if fingerprints < slots {
         return CheckAnswer::Refused(Refusal::ShortFingerprints);
     }
-    let buckets = bucket_starts(n as u32) as usize;
+    let needed = bucket_starts(n as u32) as usize;
     if short(
         n,
         slots,
-        buckets,
+        needed,
         lone,
         counts,
         sums,

@@ -4,7 +4,8 @@ ghost use mathlib.Core.Bool.{true};
 ghost use Prim.Native.Nat.{_≤_};
 ghost use lib.ListN.{length};
 ghost use Rattle.repeats.specs.Repeats.{repeats?};
-ghost use Rattle.fuse.specs.Search.{CanSearch, Sought};
+ghost use Rattle.fuse.specs.Search.{Sought};
+ghost use Rattle.fuse.specs.Seek.{CanSeek};
 use crate::attempts::try_attempt;
 use repeats::repeated;
 
@@ -33,9 +34,8 @@ pub fn search(
     sums: &mut [u64],
     positions: &mut [u8],
     order: &mut [u64],
-    starts: &mut [u32],
 ) -> u32
-    requires { ⌜ CanSearch (now keys) first last (now lone) (now counts) (now sums) (now positions) (now order) (now starts) ⌝ }
+    requires { ⌜ CanSeek (now keys) first last (now lone) (now counts) (now sums) (now positions) (now order) ⌝ }
     ensures { λ r. ⌜ Sought (now (keys .entry)) first last r (now (positions .exit)) (now (order .exit)) ⌝ }
 {
     let mut i = first;
@@ -43,7 +43,7 @@ pub fn search(
         if last < i {
             break 0;
         }
-        let taken = try_attempt(keys, i, lone, counts, sums, positions, order, starts);
+        let taken = try_attempt(keys, i, lone, counts, sums, positions, order);
         if taken == keys.len() {
             break i;
         }

@@ -100,7 +100,7 @@ fn power_above(k: u32) -> u32
     p
 }
 
-// P: how many bucket starts n keys take.
+// P: how many bucket starts are asked for, for n keys.
 pub fn bucket_starts(n: u32) -> u32
     requires { ⌜ n ≤ maxKeys ⌝ }
     ensures { λ r. ⌜ r ≡ bucketStartsOf n ⌝ }

@@ -1,5 +1,4 @@
 pub mod Clearing
-pub mod Placing
 pub mod Packed
 pub mod ThreeSlots
 pub mod KeyAdded

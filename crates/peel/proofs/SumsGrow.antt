@@ -1,6 +1,6 @@
 -- The sums of the first hashes, from none on, one more at a time. Assumes nothing.
 use mathlib.Core.Path.{_≡_, refl, sym, ap, ap₂, _∙_}
-use mathlib.Core.List.{List, _∷_, map}
+use mathlib.Core.List.{List, [], _∷_, _++_, map}
 use Prim.Native.Nat.{ℕ, zero, suc, _+_, _/_, _%_, _≤_, _<_}
 use native.Mathlib.Numerals.{add-one}
 use native.Mathlib.Omega.{arith}
@@ -52,14 +52,14 @@ module _ {slots : ℕ → Slots} {n : ℕ} {hashes counts sums : List ℕ} {i : 
   pub counts-few : (slot : ℕ) → getD counts slot 0 / 4 ≤ i
   counts-few slot = omega (arith, counts-at-most slots n (take i hashes) counts sums (k .sums-are) slot, length-take-le i hashes (k .within))
 
-  pub count-step : {counts′ sums′ : List ℕ} → i < length hashes → Apart n (slots (getD hashes i 0))
-      → sumsIn counts′ sums′ ≡ addKey (slots (getD hashes i 0)) (getD hashes i 0) (sumsIn counts sums) → Counting slots n hashes counts′ sums′ (i + 1)
-  count-step lt apart e =
-      let hash = getD hashes i 0 in
+  pub count-step : {counts′ sums′ : List ℕ} {hash : ℕ} → i < length hashes → hash ≡ getD hashes i 0 → Apart n (slots hash)
+      → sumsIn counts′ sums′ ≡ addKey (slots hash) hash (sumsIn counts sums) → Counting slots n hashes counts′ sums′ (i + 1)
+  count-step {hash = hash} lt is apart e =
       record {
         within = omega arith;
         sums-are = e ∙ ap (addKey (slots hash) hash) (k .sums-are) ∙ sums-snoc slots n (take i hashes) hash apart
-            ∙ ap (sumsOf slots n) (sym (take-suc hashes i 0 lt) ∙ ap (λ (j : ℕ). take j hashes) (sym (add-one i)));
+            ∙ ap (sumsOf slots n)
+            (ap (λ (h : ℕ). take i hashes ++ (h ∷ [])) is ∙ sym (take-suc hashes i 0 lt) ∙ ap (λ (j : ℕ). take j hashes) (sym (add-one i)));
       }
 
   pub count-end : length hashes ≤ i → sumsIn counts sums ≡ sumsOf slots n hashes

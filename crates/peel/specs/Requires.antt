@@ -2,7 +2,7 @@
 use mathlib.Core.Path.{_≡_}
 use mathlib.Core.List.{List, []}
 use Prim.Native.Nat.{ℕ, _+_, _-_, _*_, _/_, _^_, _≤_, _<_}
-use lib.ListN.{length, getD, take, replicate}
+use lib.ListN.{length, getD, replicate}
 use Rattle.stuck.specs.Stuck.{slotAt}
 use Rattle.machine.specs.Machine.{sumsOf, release, takeKey, scan}
 use Rattle.machine.specs.Work.{many}
@@ -23,21 +23,6 @@ pub record Segmented (segment mask span slots : ℕ) : Type 0 where
   pub slots-are : slots ≡ span + 2 * segment
   pub numbered : slots < 2 ^ 32
 
--- ---- placing the hashes
-
--- as many starts as a power of two, at least 2, that is not below the segment count
-pub record StartsFit (count : ℕ) (starts : List ℕ) : Type 0 where
-  pub power : ℕ
-  pub two : 1 ≤ power
-  pub enough : count ≤ 2 ^ power
-  pub length-is : length starts ≡ 2 ^ power
-
-pub record CanPlace (segment span : ℕ) (keys order starts : List ℕ) : Type 0 where
-  pub some : 0 < segment
-  pub few : length keys ≤ maxTouches
-  pub order-clear : order ≡ replicate (length keys) 0
-  pub starts-fit : StartsFit (span / segment) starts
-
 -- ---- counting
 
 pub record CanTouch (counts sums : List ℕ) (position slot : ℕ) : Type 0 where
@@ -51,9 +36,9 @@ pub record CanAdd (segment mask span : ℕ) (counts sums : List ℕ) : Type 0 wh
   pub same : length sums ≡ length counts
   pub few : (slot : ℕ) → getD counts slot 0 / 4 < maxTouches
 
-pub record CanCount (segment mask span : ℕ) (hashes counts sums : List ℕ) : Type 0 where
+pub record CanCount (segment mask span : ℕ) (keys counts sums : List ℕ) : Type 0 where
   pub layout : Segmented segment mask span (length counts)
-  pub few : length hashes ≤ maxTouches
+  pub few : length keys ≤ maxTouches
   pub counts-clear : counts ≡ replicate (length counts) 0
   pub sums-clear : sums ≡ replicate (length counts) 0
 
@@ -106,16 +91,14 @@ pub record CanTakeAll (segment mask span : ℕ) (counts sums lone : List ℕ) (t
 
 -- ---- a whole attempt, and the fingerprints
 
-pub record CanRun (segment mask span : ℕ) (keys lone counts sums order positions starts : List ℕ) : Type 0 where
+pub record CanRun (segment mask span : ℕ) (keys lone counts sums order positions : List ℕ) : Type 0 where
   pub layout : Segmented segment mask span (length counts)
   pub few : length keys ≤ maxTouches
   pub same-lone : length lone ≡ length counts
   pub counts-clear : counts ≡ replicate (length counts) 0
   pub sums-clear : sums ≡ replicate (length counts) 0
   pub order-room : length keys ≤ length order
-  pub order-clear : take (length keys) order ≡ replicate (length keys) 0
   pub positions-room : length keys ≤ length positions
-  pub starts-fit : StartsFit (layout .segments) starts
 
 pub record CanFill (segment mask span : ℕ) (fingerprints order positions : List ℕ) (n : ℕ) : Type 0 where
   pub layout : Segmented segment mask span (length fingerprints)

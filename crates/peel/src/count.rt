@@ -4,9 +4,10 @@ ghost use lib.ListN.{length};
 ghost use Rattle.machine.specs.Machine.{sumsOf};
 ghost use Rattle.machine.specs.SumsByKey as machine;
 ghost use Rattle.machine.specs.SumsByKey.{addKey};
-ghost use Rattle.peel.specs.Segments.{slotsIn};
+ghost use Rattle.peel.specs.Segments.{slotsIn, hashesOf};
 ghost use Rattle.peel.specs.Buffers.{sumsIn};
 ghost use Rattle.peel.specs.Requires.{CanTouch, CanAdd, CanCount};
+use arith::murmur3::mix;
 use arith::slots::slots;
 
 // One key at one slot: the count goes up by one, its low two bits take the position, and the sum takes the hash.
@@ -32,22 +33,24 @@ fn add_key(counts: &mut [u16], sums: &mut [u64], hash: u64, segment: u32, mask: 
     touch(counts, sums, hash, 2, three[2]);
 }
 
-// The keys with these hashes, all of them; a hash 0 is a hash like any other.
-pub fn count_hashes(
-    hashes: &[u64],
+// All of the keys, each by its hash under the seed; a hash 0 is a hash like any other.
+pub fn count_keys(
+    keys: &[u64],
+    seed: u64,
     segment: u32,
     mask: u32,
     span: u32,
     counts: &mut [u16],
     sums: &mut [u64],
 )
-    requires { ⌜ CanCount segment mask span (now hashes) (now counts) (now sums) ⌝ }
+    requires { ⌜ CanCount segment mask span (now keys) (now counts) (now sums) ⌝ }
     ensures { λ _. ⌜ sumsIn (now (counts .exit)) (now (sums .exit))
-        ≡ sumsOf (slotsIn segment mask span) (length (now (counts .entry))) (now (hashes .entry)) ⌝ }
+        ≡ sumsOf (slotsIn segment mask span) (length (now (counts .entry))) (hashesOf seed (now (keys .entry))) ⌝ }
 {
     let mut i = 0;
-    while i < hashes.len() {
-        add_key(counts, sums, hashes[i], segment, mask, span);
+    while i < keys.len() {
+        let hash = mix(keys[i], seed);
+        add_key(counts, sums, hash, segment, mask, span);
         i += 1;
     }
 }

@@ -8,17 +8,15 @@ ghost use Rattle.peel.specs.Picks.{picksOfKeys};
 pub mod clear;
 mod count;
 pub mod fill;
-mod hashes;
 mod scan;
 mod take;
 
-use count::count_hashes;
-use hashes::place;
+use count::count_keys;
 use scan::stack_lone;
 use take::take_all;
 
-// One attempt, where counts, sums and the first places of `order`, one for each key, are clear. Returns how many keys are taken; `order`
-// and `positions` begin with them, the first taken first. What the other buffers hold then is not said: the caller clears them.
+// One attempt, where counts and sums are clear. Returns how many keys are taken; `order` and `positions` begin with them, the first taken
+// first. What the other buffers hold then is not said: the caller clears them.
 pub fn run(
     keys: &[u64],
     seed: u64,
@@ -30,15 +28,12 @@ pub fn run(
     sums: &mut [u64],
     order: &mut [u64],
     positions: &mut [u8],
-    starts: &mut [u32],
 ) -> usize
-    requires { ⌜ CanRun segment mask span (now keys) (now lone) (now counts) (now sums) (now order) (now positions) (now starts) ⌝ }
+    requires { ⌜ CanRun segment mask span (now keys) (now lone) (now counts) (now sums) (now order) (now positions) ⌝ }
     ensures { λ r. ⌜ picksIn r (now (order .exit)) (now (positions .exit))
         ≡ picksOfKeys segment mask span (length (now (counts .entry))) seed (now (keys .entry)) ⌝ }
 {
-    let n = keys.len();
-    place(keys, seed, segment, span, &mut order[..n], starts);
-    count_hashes(&order[..n], segment, mask, span, counts, sums);
+    count_keys(keys, seed, segment, mask, span, counts, sums);
     let stacked = stack_lone(counts, lone);
     take_all(
         counts,

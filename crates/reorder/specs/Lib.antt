@@ -1,3 +1,3 @@
 pub mod Reordered
 pub mod ReorderedLaws
-pub mod Stores
+pub mod Swapped

@@ -1,1 +1,1 @@
-// The same elements in another order: theory only, for the order of keys, the bucket step and the test for repeated keys.
+// The same elements in another order: theory only, for the order of keys and the test for repeated keys.

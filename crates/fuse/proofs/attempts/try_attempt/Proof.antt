@@ -6,9 +6,6 @@ use Rattle.fuse.proofs.attempts.try_attempt.Tie as tie
 
 -- ---- the places, from the last clearing back to the start
 
-abbrev sums-clear : tie.After-clear-u642 → tie.After-clear-u64
-sums-clear c = c .before .before .before .before
-
 abbrev counts-clear : tie.After-clear-u64 → tie.After-clear-u16
 counts-clear c = c .before .before .before .before
 
@@ -16,30 +13,28 @@ abbrev described : tie.After-clear-u16 → tie.After-descriptor-at
 described c = c .before .before
 
 abbrev start : tie.After-descriptor-at → tie.Start
-start c = c .before .before .before .before .before .before .before .before
+start c = c .before .before .before .before .before .before .before
 
 -- ---- the needs
 
 run-requires : tie.Need-run-requires
 run-requires c κs =
-    let order : tie.After-clear-u642 = c .before .before .before .before .before .before .before .before in
-    let sums = sums-clear order in
+    let sums : tie.After-clear-u64 = c .before .before .before .before .before .before .before in
     let counts = counts-clear sums in
     let d = described counts in
-    can-run (start d .pre) _ (counts .clear-u16 .ensures) (sums .clear-u64 .ensures) (order .clear-u642 .ensures) (d .descriptor-at .ensures)
+    can-run (start d .pre) _ (counts .clear-u16 .ensures) (sums .clear-u64 .ensures) (d .descriptor-at .ensures)
 
 returns : tie.Need-returns
 returns c =
-    let run : tie.After-run = c .before .before .before .before .before .before .before .before .before .before .before .before in
-    let order : tie.After-clear-u642 = run .before .before .before .before .before .before .before .before .before in
-    let sums = sums-clear order in
+    let run : tie.After-run = c .before .before .before .before .before .before .before .before .before .before in
+    let sums : tie.After-clear-u64 = run .before .before .before .before .before .before .before .before in
     let counts = counts-clear sums in
     let d = described counts in
-    tried (start d .pre) _ (counts .clear-u16 .ensures) (sums .clear-u64 .ensures) (order .clear-u642 .ensures) (d .descriptor-at .ensures) (run .run .ensures)
+    tried (start d .pre) _ (counts .clear-u16 .ensures) (sums .clear-u64 .ensures) (d .descriptor-at .ensures) (run .run .ensures)
 
 pub try-attempt-spec : {M : Type 1} → statement M
 try-attempt-spec =
     tie.close
     (tie.spec
-    (λ c. search needs) (λ c κs. search needs) (λ c κs. search needs) (λ c κs. search needs) (λ c κs. search needs) run-requires
-    (λ c. search needs) (λ c. search needs) (λ c. search needs) (λ c. search needs) (λ c. search needs) (λ c. search needs) returns)
+    (λ c. search needs) (λ c κs. search needs) (λ c κs. search needs) (λ c κs. search needs) run-requires
+    (λ c. search needs) (λ c. search needs) (λ c. search needs) (λ c. search needs) (λ c. search needs) returns)
