@@ -41,7 +41,8 @@ extern "C" {
  *   starts                             GP_STARTS_UP_TO(n)
  *
  * A list of just n keys may need less: its slots are its count length plus twice its segment length (see GP_SLOTS_OF). The bucket
- * starts are not longest at the limit: lists of 3,347 to 3,361 keys need 64, those of 4,096 keys 32.
+ * starts are checked and zeroed only. They are not longest at the limit: lists of 3,347 to 3,361 keys need 64, those of 4,096
+ * keys 32.
  */
 #define GP_SLOTS_UP_TO(n)                                                                                                       \
     ((n) <= 2      ? 12                                                                                                         \
