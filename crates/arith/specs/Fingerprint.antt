@@ -1,4 +1,4 @@
--- Document 01, module 3: the fingerprint of a hash, at any width; a list of 8 bits has w = 8. Assumes nothing.
+-- Document 01, module 3: the fingerprint of a hash, at any width; a list of 8 bits has w = 8, one of 16 bits w = 16. Assumes nothing.
 use Prim.Native.Nat.{ℕ, _%_, _^_}
 use Rattle.arith.specs.Steps.{xorshift}
 

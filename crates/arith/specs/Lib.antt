@@ -9,3 +9,4 @@ pub mod SlotsPromised
 pub mod OneToOne
 pub mod Spread
 pub mod SeedBound
+pub mod FingerprintLow

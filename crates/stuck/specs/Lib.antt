@@ -16,3 +16,4 @@ pub mod KeyMap
 pub mod EqualSlots
 pub mod FillAnswers
 pub mod Cases
+pub mod FillLow
