@@ -2,7 +2,7 @@
 use mathlib.Core.Path.{_≡_, refl, sym, ap, _∙_}
 use mathlib.Core.Logic.{_≢_}
 use mathlib.Core.List.{List}
-use Prim.Native.Nat.{ℕ, _+_, _/_, _^_, _<_}
+use Prim.Native.Nat.{ℕ, zero, suc, _+_, _/_, _^_, _<_}
 use native.Mathlib.Omega.{arith}
 use lib.ListN.{length, getD, set}
 use lib.Bits.{bitXor}
@@ -14,11 +14,11 @@ use Rattle.machine.specs.Known.{Known}
 use Rattle.machine.specs.SumsByKey.{touch, addKey, touch-other}
 use Rattle.peel.specs.Segments.{slotsIn}
 use Rattle.peel.specs.SlotsApart.{slots-apart}
+use Rattle.peel.specs.SlotsRead.{slot-read, slot-inside}
 use Rattle.peel.specs.Buffers.{maxTouches, sumsIn}
 use Rattle.peel.specs.Requires.{CanTouch, CanAdd}
 use Rattle.peel.specs.CountsExact.{count-at}
 use Rattle.peel.proofs.Packed.{changed-is}
-use Rattle.peel.proofs.ThreeSlots.{slot-read, slot-inside, later-differs}
 
 -- the sums with one more key at a slot
 pub touch-is : (counts sums : List ℕ) (hash position slot : ℕ) → position < 4
@@ -36,6 +36,16 @@ touched-other counts sums counts′ sums′ hash position slot e x ne =
     sym (count-at counts′ x) ∙ ap (λ (a : Sums). getD (a .counts) x 0) e
     ∙ ap (λ (k : Known). k .count) (touch-other hash position slot (sumsIn counts sums) x ne)
     ∙ count-at counts x
+
+-- a later position has another slot
+later-differs : (n : ℕ) (t : Slots) → Apart n t → (p q : ℕ) → p < q → q < 3 → slotAt t q ≢ slotAt t p
+later-differs n t apart zero (suc zero) lt small = λ e. apart .ne01 (sym e)
+later-differs n t apart zero (suc (suc zero)) lt small = λ e. apart .ne02 (sym e)
+later-differs n t apart (suc zero) (suc (suc zero)) lt small = λ e. apart .ne12 (sym e)
+later-differs n t apart p zero lt small = absurd (omega arith)
+later-differs n t apart (suc p) (suc zero) lt small = absurd (omega arith)
+later-differs n t apart (suc (suc p)) (suc (suc zero)) lt small = absurd (omega arith)
+later-differs n t apart p (suc (suc (suc q))) lt small = absurd (omega arith)
 
 -- the slots at the first q positions of a key are touched: there is room for the others
 pub record Touching (key : Slots) (counts sums : List ℕ) (q : ℕ) (counts′ sums′ : List ℕ) : Type 0 where

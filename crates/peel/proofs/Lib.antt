@@ -1,11 +1,9 @@
 pub mod Clearing
 pub mod Packed
-pub mod ThreeSlots
 pub mod KeyAdded
 pub mod SumsGrow
 pub mod Stacking
 pub mod Scanning
 pub mod Releasing
 pub mod Turns
-pub mod Filling
 pub mod Running

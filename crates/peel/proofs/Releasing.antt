@@ -17,12 +17,12 @@ use Rattle.machine.specs.Take.{release-other}
 use Rattle.machine.specs.Work.{many, many-change}
 use Rattle.peel.specs.Segments.{slotsIn}
 use Rattle.peel.specs.SlotsApart.{slots-apart}
+use Rattle.peel.specs.SlotsRead.{slot-read}
 use Rattle.peel.specs.Buffers.{countsIn, sumsIn, stackOf, stateIn}
 use Rattle.peel.specs.Requires.{CanRelease, Released, CanTake, TookKey}
 use Rattle.peel.specs.CountsExact.{count-at}
 use Rattle.peel.proofs.Packed.{changed-is}
 use Rattle.peel.proofs.Stacking.{Stored}
-use Rattle.peel.proofs.ThreeSlots.{slot-read}
 
 pub released-is : {counts sums lone : List ℕ} {top hash position slot top′ : ℕ} → CanRelease counts sums lone top position slot
     → Stored (getD counts slot 0 / 4) 2 lone top slot top′

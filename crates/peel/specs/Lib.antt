@@ -2,6 +2,7 @@ pub mod Segments
 pub mod Buffers
 pub mod Requires
 pub mod SlotsApart
+pub mod SlotsRead
 pub mod Picks
 pub mod PicksIn
 pub mod Taken

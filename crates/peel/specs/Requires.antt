@@ -89,7 +89,7 @@ pub record CanTakeAll (segment mask span : ℕ) (counts sums lone : List ℕ) (t
   pub order-room : length hashes ≤ length order
   pub positions-room : length hashes ≤ length positions
 
--- ---- a whole attempt, and the fingerprints
+-- ---- a whole attempt
 
 pub record CanRun (segment mask span : ℕ) (keys lone counts sums order positions : List ℕ) : Type 0 where
   pub layout : Segmented segment mask span (length counts)
@@ -99,6 +99,8 @@ pub record CanRun (segment mask span : ℕ) (keys lone counts sums order positio
   pub sums-clear : sums ≡ replicate (length counts) 0
   pub order-room : length keys ≤ length order
   pub positions-room : length keys ≤ length positions
+
+-- ---- the fingerprints: what crate `fill` asks, at every width
 
 pub record CanFill (segment mask span : ℕ) (fingerprints order positions : List ℕ) (n : ℕ) : Type 0 where
   pub layout : Segmented segment mask span (length fingerprints)

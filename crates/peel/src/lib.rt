@@ -1,4 +1,4 @@
-// One attempt of document 01, on lent buffers: from the keys to what was taken, and from that to the fingerprints.
+// One attempt of document 01, on lent buffers: from the keys to what was taken. It knows no width of a fingerprint.
 ghost use mathlib.Core.Path.{_≡_};
 ghost use lib.ListN.{length};
 ghost use Rattle.peel.specs.Buffers.{picksIn};
@@ -7,7 +7,6 @@ ghost use Rattle.peel.specs.Picks.{picksOfKeys};
 
 pub mod clear;
 mod count;
-pub mod fill;
 mod scan;
 mod take;
 

@@ -1,17 +1,17 @@
-// The fingerprints, from the keys that were taken.
+// The fingerprints of 8 bits.
 ghost use mathlib.Core.Path.{_≡_};
 ghost use Prim.Native.Nat.{_<_};
 ghost use lib.ListN.{length};
 ghost use Rattle.arith.specs.Fingerprint.{fingerprintOf};
 ghost use Rattle.stuck.specs.Fill.{store, fill};
 ghost use Rattle.machine.specs.Machine.{stores};
 ghost use Rattle.peel.specs.Segments.{slotsIn};
 ghost use Rattle.peel.specs.Buffers.{picksIn};
 ghost use Rattle.peel.specs.Requires.{Segmented, CanFill};
 use arith::fingerprint::fingerprint8;
 use arith::slots::slots;
 
-// The slot where a key was taken becomes its fingerprint xor the other two slots' bytes: all three, and its own once more.
+// The slot where a key was taken becomes its fingerprint xor the other two slots' fingerprints: all three, and its own once more.
 fn fill_one(fingerprints: &mut [u8], hash: u64, position: u8, segment: u32, mask: u32, span: u32)
     requires { ⌜ Segmented segment mask span (length (now fingerprints)) × (position < 3) ⌝ }
     ensures { λ _. ⌜ now (fingerprints .exit)

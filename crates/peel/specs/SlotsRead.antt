@@ -1,14 +1,13 @@
--- The three slots of a hash as the code reads them are those that the key touches. Assumes nothing.
-use mathlib.Core.Path.{_≡_, sym, ap}
-use mathlib.Core.Logic.{_≢_}
+-- The three slots of a hash as the code reads them are those that the key touches, and they lie inside. Assumes nothing.
+use mathlib.Core.Path.{_≡_, ap}
 use mathlib.Core.List.{List}
 use Prim.Native.Nat.{ℕ, zero, suc, _^_, _<_}
 use native.Mathlib.Omega.{arith}
 use lib.ListN.{getD}
 use Rattle.arith.specs.Slots.{slotsOf}
 use Rattle.arith.specs.SlotsPromised.{SlotsAre}
-use Rattle.stuck.specs.Stuck.{Slots, slotAt}
-use Rattle.stuck.specs.Ring.{Apart, slot-below}
+use Rattle.stuck.specs.Stuck.{slotAt}
+use Rattle.stuck.specs.Ring.{slot-below}
 use Rattle.peel.specs.Segments.{slotsIn}
 use Rattle.peel.specs.Requires.{Segmented}
 use Rattle.peel.specs.SlotsApart.{in-room, slots-apart}
@@ -27,13 +26,3 @@ module _ {segment mask span slots hash : ℕ} {three : List ℕ} (layout : Segme
 
   pub slot-inside : (q : ℕ) → q < 3 → getD three q 0 < slots
   slot-inside q lt = rw (slot-read q lt) (slot-below slots (slotsIn segment mask span hash) (slots-apart layout hash small) q)
-
--- a later position has another slot
-pub later-differs : (n : ℕ) (t : Slots) → Apart n t → (p q : ℕ) → p < q → q < 3 → slotAt t q ≢ slotAt t p
-later-differs n t apart zero (suc zero) lt small = λ e. apart .ne01 (sym e)
-later-differs n t apart zero (suc (suc zero)) lt small = λ e. apart .ne02 (sym e)
-later-differs n t apart (suc zero) (suc (suc zero)) lt small = λ e. apart .ne12 (sym e)
-later-differs n t apart p zero lt small = absurd (omega arith)
-later-differs n t apart (suc p) (suc zero) lt small = absurd (omega arith)
-later-differs n t apart (suc (suc p)) (suc (suc zero)) lt small = absurd (omega arith)
-later-differs n t apart p (suc (suc (suc q))) lt small = absurd (omega arith)
