@@ -1,4 +1,2 @@
-pub mod Paper
 pub mod OneAnswer
-pub mod SmallLists
 pub mod MustNotFit

@@ -1,5 +1,5 @@
 // `BinaryFuse8` of the Rust: a list of keys is packed into fingerprints of 8 bits, on lent buffers.
-mod parts;
+mod pack;
 
 ghost use mathlib.Core.Path.{_≡_};
 ghost use Rattle.answers.specs.Answers.{outcome};
@@ -7,15 +7,9 @@ ghost use Rattle.fuse.specs.Memory.{memory};
 ghost use Rattle.fuse.specs.Build.{buildOf, attemptOf};
 ghost use Rattle.fuse.specs.Demand.{Demand3};
 ghost use Rattle.fuse.specs.Leaves.{Leaves};
-ghost use Rattle.bfuse8.specs.Paper.{paper};
-use answers::Refusal;
-use descriptor::Descriptor;
-
-pub enum BuildAnswer {
-    // The descriptor, A, and the number of the attempt.
-    Built(Descriptor, u32, u32),
-    Refused(Refusal),
-}
+ghost use Rattle.plan.specs.Paper.{paper};
+use pack::carry_out;
+pub use plan::BuildAnswer;
 
 // The list of the first of the attempts 1 to `limit` without a stuck set.
 pub fn build(
@@ -33,18 +27,20 @@ pub fn build(
     ensures { λ r. ⌜ Demand3 8 (now (keys .entry)) 1 limit (memory (now (fingerprints .entry)) (now (lone .entry)) (now (counts .entry)) (now (sums .entry)) (now (positions .entry)) (now (order .entry)) (now (starts .entry))) (paper r) (now (fingerprints .exit)) ⌝ }
     ensures { λ r. ⌜ Leaves 8 (now (keys .entry)) (memory (now (fingerprints .entry)) (now (lone .entry)) (now (counts .entry)) (now (sums .entry)) (now (positions .entry)) (now (order .entry)) (now (starts .entry))) (paper r) (memory (now (fingerprints .exit)) (now (lone .exit)) (now (counts .exit)) (now (sums .exit)) (now (positions .exit)) (now (order .exit)) (now (starts .exit))) ⌝ }
 {
-    parts::within(
+    let room = fingerprints.len();
+    let plan = plan::make(
         keys,
         1,
         limit,
-        fingerprints,
+        room,
         lone,
         counts,
         sums,
         positions,
         order,
         starts,
-    )
+    );
+    carry_out(plan, keys.len(), fingerprints, positions, order)
 }
 
 // The same of one attempt, by its number.
@@ -63,16 +59,18 @@ pub fn attempt(
     ensures { λ r. ⌜ Demand3 8 (now (keys .entry)) number number (memory (now (fingerprints .entry)) (now (lone .entry)) (now (counts .entry)) (now (sums .entry)) (now (positions .entry)) (now (order .entry)) (now (starts .entry))) (paper r) (now (fingerprints .exit)) ⌝ }
     ensures { λ r. ⌜ Leaves 8 (now (keys .entry)) (memory (now (fingerprints .entry)) (now (lone .entry)) (now (counts .entry)) (now (sums .entry)) (now (positions .entry)) (now (order .entry)) (now (starts .entry))) (paper r) (memory (now (fingerprints .exit)) (now (lone .exit)) (now (counts .exit)) (now (sums .exit)) (now (positions .exit)) (now (order .exit)) (now (starts .exit))) ⌝ }
 {
-    parts::within(
+    let room = fingerprints.len();
+    let plan = plan::make(
         keys,
         number,
         number,
-        fingerprints,
+        room,
         lone,
         counts,
         sums,
         positions,
         order,
         starts,
-    )
+    );
+    carry_out(plan, keys.len(), fingerprints, positions, order)
 }

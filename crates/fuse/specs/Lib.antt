@@ -2,10 +2,8 @@ pub mod Attempts
 pub mod Query
 pub mod Memory
 pub mod Build
-pub mod Exact
 pub mod Search
 pub mod Seek
-pub mod SeekLaws
 pub mod Demand
 pub mod FreeAttempts
 pub mod FirstFree
@@ -13,10 +11,12 @@ pub mod Checked
 pub mod Demanded
 pub mod QueryMeans
 pub mod AcceptedSlots
-pub mod Finish
-pub mod Endings
-pub mod PutBack
 pub mod ToldApart
 pub mod Leaves
 pub mod LeftAsSaid
 pub mod ByTwentyBytes
+pub mod SameLengths
+pub mod Narrow
+pub mod SideBySide
+pub mod QueryWidths
+pub mod Widths
