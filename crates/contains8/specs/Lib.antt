@@ -1,4 +1,2 @@
-pub mod Paper
-pub mod FirstFault
 pub mod OneAnswer
 pub mod MustNotFit

@@ -1,7 +1,7 @@
 -- `contains8::contains_bytes` meets its contract: check 7 by the length, all else by the query of the record. Assumes nothing.
 use mathlib.Core.Path.{_∙_}
 use borrow.Author.Needs.{needs}
-use Rattle.contains8.proofs.ByBytes.{short, long}
+use Rattle.query.specs.ByBytes.{short, long}
 use Rattle.contains8.proofs.contains_bytes.Statement.{statement}
 use Rattle.contains8.proofs.contains_bytes.Tie as tie
 

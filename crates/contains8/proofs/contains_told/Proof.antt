@@ -1,7 +1,7 @@
 -- `contains8::contains_told` meets its contract: check 7 by the length, all else by the record. Assumes nothing.
 use mathlib.Core.Path.{ap, _∙_}
 use Rattle.fuse.specs.Query.{told}
-use Rattle.contains8.proofs.ByBytes.{short, long}
+use Rattle.query.specs.ByBytes.{short, long}
 use borrow.Author.Needs.{needs}
 use Rattle.contains8.proofs.contains_told.Statement.{statement}
 use Rattle.contains8.proofs.contains_told.Tie as tie

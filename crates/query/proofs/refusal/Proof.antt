@@ -1,13 +1,13 @@
--- `contains8::refusal` meets its contract: what `check` answered decides. Assumes nothing.
+-- `query::refusal` meets its contract: what `check` answered decides. Assumes nothing.
 use mathlib.Core.Path.{_≡_, ap, sym, _∙_}
 use Rattle.answers.specs.Answers.{Answer, refuses}
 use Rattle.answers.specs.Checks.{Done, _then_}
 use Rattle.descriptor.specs.declared.CheckAnswer.{CheckAnswer}
 use Rattle.descriptor.specs.Paper.{checkPaper}
-use Rattle.contains8.specs.FirstFault.{firstFault}
+use Rattle.query.specs.FirstFault.{firstFault}
 use borrow.Author.Needs.{needs}
-use Rattle.contains8.proofs.refusal.Statement.{statement}
-use Rattle.contains8.proofs.refusal.Tie as tie
+use Rattle.query.proofs.refusal.Statement.{statement}
+use Rattle.query.proofs.refusal.Tie as tie
 
 -- the refusal where `check` answered so
 answer : (c : tie.After-check) (checked : CheckAnswer) → checked ≡ c .check .result → let a = c .before .args in

@@ -1,9 +1,9 @@
--- `contains8::refused` meets its contract: the code of the refusal. Assumes nothing.
+-- `query::refused` meets its contract: the code of the refusal. Assumes nothing.
 use mathlib.Core.Path.{ap, _∙_}
 use Rattle.fuse.specs.Query.{told}
 use borrow.Author.Needs.{needs}
-use Rattle.contains8.proofs.refused.Statement.{statement}
-use Rattle.contains8.proofs.refused.Tie as tie
+use Rattle.query.proofs.refused.Statement.{statement}
+use Rattle.query.proofs.refused.Tie as tie
 
 returns : tie.Need-returns
 returns c = c .code .ensures ∙ ap told (c .before .refusal .ensures)

@@ -1,4 +1,4 @@
--- A query by bytes: where there are too few of them, and where there are enough. Assumes nothing.
+-- A query by bytes, at any width: where there are too few of them, and where there are enough. Assumes nothing.
 use mathlib.Core.Path.{_≡_, ap}
 use mathlib.Core.List.{List}
 use Prim.Native.Nat.{ℕ, _≤_, _<_}
