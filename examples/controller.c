@@ -1,8 +1,9 @@
 /*
  * What a valve controller does with a list of due flushes: it holds the list in static memory, and each hour asks it for each of
- * its valves. Its clock wakes at zero after a power loss, and local time is ten hours behind the clock.
+ * its valves. Its clock wakes at zero after a power loss, and local time is ten hours behind the clock. The list has 8-bit
+ * fingerprints; the north island, which pays for water by the litre, gets 16-bit ones.
  *
- * usage: controller              builds a small list of its own
+ * usage: controller              builds a small list of its own, and the north island's
  *        controller LIST         reads a packed list: the 20 descriptor bytes and then the fingerprints
  *        controller --save LIST  builds the small list, and writes it too
  *
@@ -14,7 +15,7 @@
 #include <string.h>
 
 enum { UNIT = 7, VALVES = 4, HOURS = 15, OWN_FLUSHES = 7 };
-enum { SECONDS_OF_HOUR = 3600, LOCAL_TIME = -10 * SECONDS_OF_HOUR };
+enum { SECONDS_OF_HOUR = 3600, LOCAL_TIME = -10 * SECONDS_OF_HOUR, HOURS_OF_YEAR = 365 * 24 };
 
 /* The list as it comes from a file; one byte more, to see that a file is too long. */
 static uint8_t list[GP_DESCRIPTOR_BYTES + GP_MAX_SLOTS + 1];
@@ -130,6 +131,45 @@ static void watch_hour(int hour) {
     puts(any_due ? "" : " nothing due");
 }
 
+/* ---- The north island ---- */
+
+/* The same flushes, in twice the memory. The 20 bytes do not tell the width: a list is asked by the function of its own width. */
+static uint8_t north_descriptor[GP_DESCRIPTOR_BYTES];
+static uint16_t north_fingerprints[SLOTS];
+
+static uint32_t ask_north(uint64_t key) {
+    return gp_fuse16_contains(north_descriptor, GP_DESCRIPTOR_BYTES, north_fingerprints, GP_SLOTS_OF(north_descriptor), key);
+}
+
+/* How often a list has a valve flushed in a year in which nothing is due. A refusal counts too: to be safe, it would flush. */
+static unsigned needless_flushes(uint32_t (*ask_list)(uint64_t key)) {
+    unsigned flushes = 0, valve;
+    int hour;
+    for (hour = HOURS; hour < HOURS + HOURS_OF_YEAR; hour++) {
+        for (valve = 0; valve < VALVES; valve++) {
+            uint64_t key;
+            if (gp_flush_key(UNIT, (uint8_t)valve, (int64_t)hour * SECONDS_OF_HOUR, &key) != 0 || ask_list(key) != GP_NO) {
+                flushes++;
+            }
+        }
+    }
+    return flushes;
+}
+
+static int serve_north_island(void) {
+    uint32_t answer =
+        gp_fuse16_build(keys, OWN_FLUSHES, GP_MAX_ATTEMPTS, north_fingerprints, SLOTS, lone, SLOTS, counts, SLOTS, sums, SLOTS,
+                        positions, OWN_FLUSHES, order, OWN_FLUSHES + 1, starts, STARTS, north_descriptor, GP_DESCRIPTOR_BYTES);
+    if (answer > GP_BUILD_REFUSED) {
+        printf("no list is built for the north island: refused with %u\n", (unsigned)(answer - GP_BUILD_REFUSED));
+        return 1;
+    }
+    printf("built the north island's list in %u bytes, at attempt %u\n",
+           (unsigned)(GP_DESCRIPTOR_BYTES + GP_SLOTS_OF(north_descriptor) * sizeof *north_fingerprints), (unsigned)answer);
+    printf("needless flushes in a year: %u, on the north island %u\n", needless_flushes(ask), needless_flushes(ask_north));
+    return 0;
+}
+
 int main(int count, char **words) {
     int status, hour, saving = count == 3 && strcmp(words[1], "--save") == 0;
     if (count > 2 && !saving) {
@@ -145,6 +185,9 @@ int main(int count, char **words) {
     }
     for (hour = 0; hour < HOURS && status == 0; hour++) {
         watch_hour(hour + LOCAL_TIME / SECONDS_OF_HOUR);
+    }
+    if (status == 0 && count == 1) {
+        status = serve_north_island();
     }
     return status;
 }

@@ -1,12 +1,17 @@
 /*
- * Gillpocketry: binary fuse lists with 8-bit fingerprints, for C and C++ on x86-64.
+ * Gillpocketry: binary fuse lists with 8-bit or 16-bit fingerprints, for C and C++ on x86-64.
  *
- * A list is 20 descriptor bytes and its fingerprints, one byte for each slot. It answers yes for every key that it was built
- * from, and for about one other key in 256. The three functions are proved to give, for every input, the answers written here;
- * they keep nothing and touch no memory but what they are lent.
+ * A list is 20 descriptor bytes and its fingerprints, one for each slot. It answers yes for every key that it was built from, and
+ * for about one other key in 256 with 8 bits, one in 65,536 with 16. The five functions are proved to give, for every input, the
+ * answers written here; they keep nothing and touch no memory but what they are lent.
+ *
+ * The width. gp_fuse8_build and gp_fuse8_contains work on fingerprints of 8 bits, gp_fuse16_build and gp_fuse16_contains on those
+ * of 16; in all else they are the same, and what is said below holds at both widths. The 20 bytes do not tell the width: for the
+ * same keys and limit they are equal. So the caller must know it, and ask each list with the function of its width. The other one
+ * may accept the list, and then denies keys that are in it.
  *
  * Link with target/staticlib/libc_api.a, which `rt staticlib c_api` makes. Of the C library it needs memset alone, so no -lm.
- * Stack, as measured: a build takes 8.5 KB, most of it a copy of a table, the other two less than 100 bytes.
+ * Stack, as measured: a build takes 8.8 KB, most of it a copy of a table, the others less than 100 bytes.
  *
  * Lent memory: each buffer is a pointer and its number of elements (not of bytes). The pointer is aligned for its element and may
  * be null where the number is 0. Buffers that are written overlap no other buffer of the same call.
@@ -96,6 +101,8 @@ extern "C" {
  */
 uint32_t gp_fuse8_contains(const uint8_t *descriptor, size_t descriptor_length, const uint8_t *fingerprints,
                            size_t fingerprints_length, uint64_t key);
+uint32_t gp_fuse16_contains(const uint8_t *descriptor, size_t descriptor_length, const uint16_t *fingerprints,
+                            size_t fingerprints_length, uint64_t key);
 
 /*
  * Builds the list of different keys, and answers with the number of the attempt that made it, 1 .. limit: the first without a
@@ -116,6 +123,11 @@ uint32_t gp_fuse8_build(const uint64_t *keys, size_t keys_length, uint32_t limit
                         uint64_t *sums, size_t sums_length, uint8_t *positions, size_t positions_length, uint64_t *order,
                         size_t order_length, uint32_t *starts, size_t starts_length, uint8_t *descriptor,
                         size_t descriptor_length);
+uint32_t gp_fuse16_build(const uint64_t *keys, size_t keys_length, uint32_t limit, uint16_t *fingerprints,
+                         size_t fingerprints_length, uint32_t *lone, size_t lone_length, uint16_t *counts, size_t counts_length,
+                         uint64_t *sums, size_t sums_length, uint8_t *positions, size_t positions_length, uint64_t *order,
+                         size_t order_length, uint32_t *starts, size_t starts_length, uint8_t *descriptor,
+                         size_t descriptor_length);
 
 /*
  * The key of one flush: unit * 2^48 + valve * 2^40 + hour, where the hour is seconds / 3,600 with the remainder dropped.

@@ -1,4 +1,5 @@
 pub mod KeyTold
 pub mod BuildTold
+pub mod Telling
 pub mod OneAnswer
 pub mod Reliable

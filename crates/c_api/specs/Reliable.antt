@@ -1,4 +1,4 @@
--- What a C program may rely on. After a build that names an attempt: it is the first allowed one without a stuck set, and the query answers 1 for every
+-- What a C program may rely on, with fingerprints of w bits. After a build that names an attempt: it is the first allowed one without a stuck set, and the query answers 1 for every
 -- listed key, asked of the 20 bytes and of as many fingerprints as they speak of, both as the build left them. After 65,536 + 6: every allowed attempt
 -- has a stuck set. Assumes nothing.
 use mathlib.Core.Path.{_≡_, refl, ap}
@@ -21,28 +21,28 @@ use Rattle.fuse.specs.Demanded.{demand-met}
 use Rattle.fuse.specs.ByTwentyBytes.{success-is, listed-key-yes-by-bytes}
 use Rattle.c_api.specs.BuildTold.{BuildTold, buildTold, refusalCode, toldBuilt, toldBuild}
 
-pub record Reliable (keys : List ℕ) (limit : ℕ) (t : BuildTold) : Type 0 where
+pub record Reliable (w : ℕ) (keys : List ℕ) (limit : ℕ) (t : BuildTold) : Type 0 where
   pub names-the-first : t .code < refusalCode 0 → First (slotsAt keys) 1 limit (t .code)
   pub every-key-yes : t .code < refusalCode 0 → (j : ℕ) → j < length keys
-      → told (containsBytesOf 8 (t .descriptor) (take (fingerprintsFor (descriptorOf (t .descriptor))) (t .memory .fingerprints)) (getD keys j 0)) ≡ 1
+      → told (containsBytesOf w (t .descriptor) (take (fingerprintsFor (descriptorOf (t .descriptor))) (t .memory .fingerprints)) (getD keys j 0)) ≡ 1
   pub all-stuck : t .code ≡ refusalCode 6 → AllStuck (slotsAt keys) 1 limit
 
-module _ (keys : List ℕ) (limit : ℕ) (before : Memory) (room : List ℕ) where
+module _ (w : ℕ) (keys : List ℕ) (limit : ℕ) (before : Memory) (room : List ℕ) where
   abbrev built : Outcome Success Memory
-  built = buildOf 8 keys limit before
+  built = buildOf w keys limit before
 
   -- so many attempts
-  searched : built ≡ searchOf 8 keys limit 1 (limit + 1 - 1) before
-  searched = ap (λ (count : ℕ). searchOf 8 keys limit 1 count before) (omega arith)
+  searched : built ≡ searchOf w keys limit 1 (limit + 1 - 1) before
+  searched = ap (λ (count : ℕ). searchOf w keys limit 1 count before) (omega arith)
 
-  demanded : Demand3 8 keys 1 limit before (built .answer) (built .leaves .fingerprints)
-  demanded = demand-met 8 keys 1 limit before (λ some. (omega arith, some)) built searched
+  demanded : Demand3 w keys 1 limit before (built .answer) (built .leaves .fingerprints)
+  demanded = demand-met w keys 1 limit before (λ some. (omega arith, some)) built searched
 
   -- a success has a limit in range, so its number is like no refusal's
   limited : (s : Success) → built .answer ≡ gives s → limit ≤ maxAttempts
-  limited s e = passed (length keys) limit _ _ _ _ _ _ _ (success-is 8 keys before limit 1 limit built refl s e .0) .most
+  limited s e = passed (length keys) limit _ _ _ _ _ _ _ (success-is w keys before limit 1 limit built refl s e .0) .most
 
-  reliable-built : (answer : Answer Success) → built .answer ≡ answer → Reliable keys limit (toldBuilt answer (built .leaves) room)
+  reliable-built : (answer : Answer Success) → built .answer ≡ answer → Reliable w keys limit (toldBuilt answer (built .leaves) room)
   reliable-built (refuses number) e =
       record {
         names-the-first = λ named. absurd (omega arith);
@@ -53,11 +53,11 @@ module _ (keys : List ℕ) (limit : ℕ) (before : Memory) (room : List ℕ) whe
       record {
         names-the-first = λ named. demanded .names-the-first s e;
         every-key-yes = λ named j listed.
-            ap told (listed-key-yes-by-bytes 8 keys before 1 limit (λ some. (omega arith, some)) built searched s e (drop descriptorSize room) j listed);
+            ap told (listed-key-yes-by-bytes w keys before 1 limit (λ some. (omega arith, some)) built searched s e (drop descriptorSize room) j listed);
         all-stuck = λ six. absurd (omega (arith, six, demanded .names-the-first s e .high, limited s e));
       }
 
-  reliable-told : (short : Bool) → Reliable keys limit (cond short (buildTold (refusalCode 7) before room) (toldBuilt (built .answer) (built .leaves) room))
+  reliable-told : (short : Bool) → Reliable w keys limit (cond short (buildTold (refusalCode 7) before room) (toldBuilt (built .answer) (built .leaves) room))
   reliable-told true =
       record {
         names-the-first = λ named. absurd (omega arith);
@@ -66,5 +66,5 @@ module _ (keys : List ℕ) (limit : ℕ) (before : Memory) (room : List ℕ) whe
       }
   reliable-told false = reliable-built (built .answer) refl
 
-  pub reliable : (t : BuildTold) → t ≡ toldBuild 8 keys limit before room → Reliable keys limit t
+  pub reliable : (t : BuildTold) → t ≡ toldBuild w keys limit before room → Reliable w keys limit t
   reliable t e = rw e (reliable-told (ltb (length room) descriptorSize))
