@@ -127,18 +127,31 @@ fn room_of_25() {
     write(made(1, 4, 3, 4), &mut room);
 }
 
-// The twenty bytes of seed 1, with these lowest bytes of L, mask and count length, and one byte more.
-pub fn bytes_of(segment: u8, mask: u8, span: u8) -> [u8; 21] {
+fn low_byte(x: u32) -> u8 {
+    (x % 256) as u8
+}
+
+// The twenty bytes of seed 1 with this L, mask and count length, whatever they are, and one byte more.
+pub fn bytes_of(segment: u32, mask: u32, span: u32) -> [u8; 21] {
     let mut bytes = [0u8; 21];
     bytes[0] = 1;
-    bytes[8] = segment;
-    bytes[12] = mask;
-    bytes[16] = span;
+    bytes[8] = low_byte(segment);
+    bytes[9] = low_byte(segment >> 8);
+    bytes[10] = low_byte(segment >> 16);
+    bytes[11] = low_byte(segment >> 24);
+    bytes[12] = low_byte(mask);
+    bytes[13] = low_byte(mask >> 8);
+    bytes[14] = low_byte(mask >> 16);
+    bytes[15] = low_byte(mask >> 24);
+    bytes[16] = low_byte(span);
+    bytes[17] = low_byte(span >> 8);
+    bytes[18] = low_byte(span >> 16);
+    bytes[19] = low_byte(span >> 24);
     bytes[20] = 170;
     bytes
 }
 
-fn read_with(segment: u8, mask: u8, span: u8) {
+fn read_with(segment: u32, mask: u32, span: u32) {
     let bytes = bytes_of(segment, mask, span);
     read(&bytes[0..20]);
 }

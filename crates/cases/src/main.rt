@@ -1,4 +1,4 @@
-// Document 01's "Run and compared" list over the descriptor, the flush key and the query: each line printed is held to the file
+// Document 01's "Run and compared" list over the descriptor, the flush key and the queries: each line printed is held to the file
 // `stdout`, and every border is tried from both sides. `build_cases` has the builds. What is proved of the definitions is in specs/.
 mod descriptors;
 mod flushes;

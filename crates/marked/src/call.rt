@@ -1,26 +1,30 @@
-// One call on marked buffers: what it answers, how many of the keys are listed then, and what it leaves of the buffers.
+// One call at each width on marked buffers, a line for each: what it answers, how many of the keys are listed then, and what it leaves of
+// the buffers.
+use crate::bits8;
+use crate::bits16;
 use crate::buffers;
 use crate::buffers::LENGTH;
 use crate::buffers::Lent;
 use crate::buffers::MARK;
-use bfuse8::BuildAnswer;
-use contains8::ContainsAnswer;
-use descriptor::Descriptor;
+use crate::left;
+use crate::left::Left;
+use crate::lines;
+use plan::BuildAnswer;
 
+// A build with its attempt limit, or an attempt with its number, at a width. Both widths stand in one enum so that there are few functions
+// over all the buffers: each is costly to check.
 enum Call {
-    // With the attempt limit.
-    Build(u32),
-    // With the attempt's number.
-    Attempt(u32),
+    Build8(u32),
+    Attempt8(u32),
+    Build16(u32),
+    Attempt16(u32),
 }
-
-// Lists of this length or less are printed.
-const FEW: usize = 9;
 
 fn answer(
     call: Call,
     keys: &[u64],
-    fingerprints: &mut [u8],
+    bytes: &mut [u8],
+    pairs: &mut [u16],
     lone: &mut [u32],
     counts: &mut [u16],
     sums: &mut [u64],
@@ -29,34 +33,42 @@ fn answer(
     starts: &mut [u32],
 ) -> BuildAnswer {
     match call {
-        Call::Build(limit) => bfuse8::build(
-            keys,
-            limit,
-            fingerprints,
-            lone,
-            counts,
-            sums,
-            positions,
-            order,
-            starts,
-        ),
-        Call::Attempt(number) => bfuse8::attempt(
-            keys,
-            number,
-            fingerprints,
-            lone,
-            counts,
-            sums,
-            positions,
-            order,
-            starts,
-        ),
+        Call::Build8(n) => {
+            bfuse8::build(keys, n, bytes, lone, counts, sums, positions, order, starts)
+        }
+        Call::Attempt8(n) => {
+            bfuse8::attempt(keys, n, bytes, lone, counts, sums, positions, order, starts)
+        }
+        Call::Build16(n) => {
+            bfuse16::build(keys, n, pairs, lone, counts, sums, positions, order, starts)
+        }
+        Call::Attempt16(n) => {
+            bfuse16::attempt(keys, n, pairs, lone, counts, sums, positions, order, starts)
+        }
     }
 }
 
-// The call on the first elements of seven arrays of marks.
+// Tells the answer, and answers what is left of the fingerprints of the call's width.
+fn told(
+    call: Call,
+    answered: BuildAnswer,
+    keys: &[u64],
+    slots: usize,
+    bytes: &[u8; LENGTH],
+    pairs: &[u16; LENGTH],
+) -> Left {
+    match call {
+        Call::Build8(_) => bits8::told(answered, keys, slots, bytes),
+        Call::Attempt8(_) => bits8::told(answered, keys, slots, bytes),
+        Call::Build16(_) => bits16::told(answered, keys, slots, pairs),
+        Call::Attempt16(_) => bits16::told(answered, keys, slots, pairs),
+    }
+}
+
+// The call on the first elements of arrays of marks.
 fn on_marked(call: Call, keys: &[u64], lent: Lent) {
-    let mut fingerprints = [MARK; LENGTH];
+    let mut bytes = [MARK; LENGTH];
+    let mut pairs = [MARK as u16; LENGTH];
     let mut lone = [MARK as u32; LENGTH];
     let mut counts = [MARK as u16; LENGTH];
     let mut sums = [MARK as u64; LENGTH];
@@ -73,7 +85,8 @@ fn on_marked(call: Call, keys: &[u64], lent: Lent) {
     let answered = answer(
         call,
         keys,
-        &mut fingerprints[0..fingerprints_end],
+        &mut bytes[0..fingerprints_end],
+        &mut pairs[0..fingerprints_end],
         &mut lone[0..lone_end],
         &mut counts[0..counts_end],
         &mut sums[0..sums_end],
@@ -81,77 +94,23 @@ fn on_marked(call: Call, keys: &[u64], lent: Lent) {
         &mut order[0..order_end],
         &mut starts[0..starts_end],
     );
-    told(answered, keys, &fingerprints);
-    buffers::leaves(
-        lent,
-        &fingerprints,
-        &lone,
-        &counts,
-        &sums,
-        &positions,
-        &order,
-        &starts,
-    );
-}
-
-// How many of the keys are answered by yes.
-fn listed(keys: &[u64], d: Descriptor, fingerprints: &[u8]) -> u64 {
-    let mut count = 0;
-    let mut i = 0;
-    while i < keys.len() {
-        count = std::num::wrapping_add_u64(count, one_if_listed(keys[i], d, fingerprints));
-        i += 1;
-    }
-    count
-}
-
-fn one_if_listed(key: u64, d: Descriptor, fingerprints: &[u8]) -> u64 {
-    match contains8::contains(d, fingerprints, key) {
-        ContainsAnswer::Yes => 1,
-        _ => 0,
-    }
-}
-
-fn filter(d: Descriptor, keys: &[u64], fingerprints: &[u8]) {
-    printing::named(b"seed", d.seed);
-    printing::named(b"L", d.segment_length as u64);
-    printing::named(b"count length", d.segment_count_length as u64);
-    printing::named(b"A", fingerprints.len() as u64);
-    printing::named(b"digest", samples::digest(fingerprints, fingerprints.len()));
-    printing::named(b"listed", listed(keys, d, fingerprints));
-}
-
-fn told(answered: BuildAnswer, keys: &[u64], fingerprints: &[u8; LENGTH]) {
-    match answered {
-        BuildAnswer::Built(d, slots, attempt) => {
-            printing::text(b":");
-            printing::named(b"attempt", attempt as u64);
-            let all = &fingerprints[..];
-            let end = buffers::least(slots as usize, all.len());
-            filter(d, keys, &all[0..end]);
-        }
-        BuildAnswer::Refused(why) => printing::refusal(why),
-    }
-}
-
-// What is called, with how many keys (and which, where they are few), and the limit or number.
-fn heading(call: &[u8], keys: &[u64], name: &[u8], number: u32) {
-    printing::text(call);
-    printing::named(b"of", keys.len() as u64);
-    printing::text(b" keys");
-    if keys.len() <= FEW {
-        printing::numbers(keys);
-    }
-    printing::text(b",");
-    printing::named(name, number as u64);
+    let list = told(call, answered, keys, lent.slots, &bytes, &pairs);
+    let scratch = left::scratch(lent, &lone, &counts, &sums, &positions, &order, &starts);
+    left::in_words(list, scratch);
 }
 
 pub fn build(keys: &[u64], limit: u32, lent: Lent) {
-    heading(b"build", keys, b"limit", limit);
-    on_marked(Call::Build(limit), keys, lent);
+    lines::heading(b"build", keys, b"limit", limit);
+    on_marked(Call::Build8(limit), keys, lent);
+    printing::text(b"16 bits: ");
+    lines::heading(b"build", keys, b"limit", limit);
+    on_marked(Call::Build16(limit), keys, lent);
 }
 
 pub fn attempt(keys: &[u64], number: u32, lent: Lent) {
-    heading(b"attempt", keys, b"number", number);
-    on_marked(Call::Attempt(number), keys, lent);
+    lines::heading(b"attempt", keys, b"number", number);
+    on_marked(Call::Attempt8(number), keys, lent);
+    printing::text(b"16 bits: ");
+    lines::heading(b"attempt", keys, b"number", number);
+    on_marked(Call::Attempt16(number), keys, lent);
 }

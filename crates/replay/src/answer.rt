@@ -1,7 +1,7 @@
-// One list built, and its answer printed as the Rust's list has it.
+// One list built at each width, and its answers printed as the Rust's list has them.
 use answers::Refusal;
-use bfuse8::BuildAnswer;
 use descriptor::Descriptor;
+use plan::BuildAnswer;
 
 const LIMIT: u32 = 1000;
 
@@ -11,18 +11,20 @@ const MOST_SLOTS: usize = 5632;
 
 const MOST_STARTS: usize = 64;
 
+// The second build is lent the scratch that the first leaves.
 pub fn print(keys: &[u64]) {
-    let mut fingerprints = [0u8; MOST_SLOTS];
+    let mut bytes = [0u8; MOST_SLOTS];
+    let mut pairs = [0u16; MOST_SLOTS];
     let mut lone = [0u32; MOST_SLOTS];
     let mut counts = [0u16; MOST_SLOTS];
     let mut sums = [0u64; MOST_SLOTS];
     let mut positions = [0u8; MOST_KEYS];
     let mut order = [0u64; MOST_KEYS + 1];
     let mut starts = [0u32; MOST_STARTS];
-    let answer = bfuse8::build(
+    let at_8_bits = bfuse8::build(
         keys,
         LIMIT,
-        &mut fingerprints,
+        &mut bytes,
         &mut lone,
         &mut counts,
         &mut sums,
@@ -30,24 +32,49 @@ pub fn print(keys: &[u64]) {
         &mut order,
         &mut starts,
     );
+    let at_16_bits = bfuse16::build(
+        keys,
+        LIMIT,
+        &mut pairs,
+        &mut lone,
+        &mut counts,
+        &mut sums,
+        &mut positions,
+        &mut order,
+        &mut starts,
+    );
+    told8(at_8_bits, &bytes);
+    told16(at_16_bits, &pairs);
+    printing::line_end();
+}
+
+fn told8(answer: BuildAnswer, fingerprints: &[u8]) {
     match answer {
-        BuildAnswer::Built(d, slots, _) => built(d, &fingerprints, slots as usize),
+        BuildAnswer::Built(d, slots, _) => built(d, samples::digest(fingerprints, slots as usize)),
         BuildAnswer::Refused(why) => refused(why),
     }
 }
 
-fn built(d: Descriptor, fingerprints: &[u8], slots: usize) {
+fn told16(answer: BuildAnswer, fingerprints: &[u16]) {
+    match answer {
+        BuildAnswer::Built(d, slots, _) => {
+            built(d, samples::digest16(fingerprints, slots as usize))
+        }
+        BuildAnswer::Refused(why) => refused(why),
+    }
+}
+
+fn built(d: Descriptor, digest: u64) {
     printing::spaced(d.seed);
     printing::spaced(d.segment_length as u64);
     printing::spaced(d.segment_count_length as u64);
-    printing::spaced(samples::digest(fingerprints, slots));
-    printing::line_end();
+    printing::spaced(digest);
 }
 
 // No free attempt is told by four zeros. The Rust's list has no other refusal.
 fn refused(why: Refusal) {
     match why {
-        Refusal::Stuck => printing::text(b" 0 0 0 0\n"),
-        _ => printing::text(b" refused\n"),
+        Refusal::Stuck => printing::text(b" 0 0 0 0"),
+        _ => printing::text(b" refused"),
     }
 }

@@ -1,6 +1,6 @@
-// Holds `bfuse8::build` to the Rust's answers where there is no Rust. The lists of keys are made here again and built at limit
-// 1,000, and each answer is printed in the words of the Rust's list. That list is the file `stdout`: tools/make-replay writes it from
-// the Rust, and nothing ever writes it from what this program prints.
+// Holds `bfuse8::build` and `bfuse16::build` to the Rust's answers where there is no Rust. The lists of keys are made here again and
+// built at limit 1,000, and both answers are printed in the words of the Rust's list. That list is the file `stdout`: tools/make-replay
+// writes it from the Rust, and nothing ever writes it from what this program prints.
 mod answer;
 mod special;
 
@@ -8,16 +8,19 @@ use answer::MOST_KEYS;
 
 fn head() {
     printing::text(
-        b"# Made by tools/make-replay: what BinaryFuse8::try_from of the Rust crate xorf 0.13.0 answers, built for release.\n",
+        b"# Made by tools/make-replay: what try_from of BinaryFuse8 and BinaryFuse16 of the Rust crate xorf 0.13.0 answers, built for release.\n",
     );
     printing::text(
-        b"# A line is: 0 n, or 1 n and n keys; then seed, segment length, segment count length, digest of the fingerprints.\n",
+        b"# A line is: 0 n, or 1 n and n keys; then for 8 bits, and again for 16: seed, segment length, segment count length, digest.\n",
     );
     printing::text(
         b"# After 0 n the keys are mix64(n * 2^32 + i + 1) for i = 0 .. n-1. Four zeros: no attempt from 1 to 1000 is free.\n",
     );
     printing::text(
-        b"# The digest begins as 14695981039346656037; each byte is xored into it, then it is multiplied by 1099511628211 modulo 2^64.\n",
+        b"# The digest is that of the fingerprints' bytes, the low byte of each first. It begins as 14695981039346656037;\n",
+    );
+    printing::text(
+        b"# each byte is xored into it, then it is multiplied by 1099511628211 modulo 2^64.\n",
     );
 }
 

@@ -4,6 +4,9 @@ use arith::murmur3::mix;
 use arith::splitmix64::seed;
 use words::wrapping_mul;
 
+// The digest of no bytes.
+const OF_NOTHING: u64 = 14695981039346656037;
+
 // mix64(n * 2^32 + i + 1) for each place i, where n is the number of places.
 pub fn of_size(keys: &mut [u64]) {
     let size = keys.len() as u64;
@@ -46,18 +49,44 @@ fn unmix64(hash: u64) -> u64 {
 
 // FNV-1a in 64 bits, of the first `size` bytes or of all where there are fewer.
 pub fn digest(bytes: &[u8], size: usize) -> u64 {
-    let mut digest = 14695981039346656037;
+    let mut digest = OF_NOTHING;
     let mut i = 0;
     while i < size {
         if bytes.len() <= i {
             return digest;
         }
-        digest = wrapping_mul(digest ^ wide(bytes[i]), 1099511628211);
+        digest = with_byte(digest, from_u8(bytes[i]));
         i += 1;
     }
     digest
 }
 
-fn wide(x: u8) -> u64 {
+// The same of elements of 16 bits, each taken as its low byte and then its high one.
+pub fn digest16(elements: &[u16], size: usize) -> u64 {
+    let mut digest = OF_NOTHING;
+    let mut i = 0;
+    while i < size {
+        if elements.len() <= i {
+            return digest;
+        }
+        digest = with_both_bytes(digest, from_u16(elements[i]));
+        i += 1;
+    }
+    digest
+}
+
+fn with_byte(digest: u64, byte: u64) -> u64 {
+    wrapping_mul(digest ^ byte, 1099511628211)
+}
+
+fn with_both_bytes(digest: u64, element: u64) -> u64 {
+    with_byte(with_byte(digest, element % 256), element / 256)
+}
+
+fn from_u8(x: u8) -> u64 {
+    x as u64
+}
+
+fn from_u16(x: u16) -> u64 {
     x as u64
 }

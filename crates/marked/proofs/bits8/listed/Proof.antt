@@ -1,9 +1,9 @@
--- `marked::call::listed` is safe and ends: it goes up through the keys. Assumes nothing.
+-- `marked::bits8::listed` is safe and ends: it goes up through the keys. Assumes nothing.
 use Prim.Native.Nat.{_≤_, _-_}
 use lib.ListN.{length}
 use borrow.Author.Needs.{needs}
-use Rattle.marked.proofs.call.listed.Statement.{statement}
-use Rattle.marked.proofs.call.listed.Tie as tie
+use Rattle.marked.proofs.bits8.listed.Statement.{statement}
+use Rattle.marked.proofs.bits8.listed.Tie as tie
 
 abbrev Inv-loop : tie.InvT-loop
 Inv-loop keys d fingerprints count₀ i₀ count i = i ≤ length keys
