@@ -1,5 +1,6 @@
 /* The build on random keys, repeated keys and keys that stick, in rooms that are long enough or too short: its answer, the memory
  * that it is lent, and what lies around that memory. */
+#include "entries.h"
 #include "gillpocketry.h"
 #include "lent.h"
 #include "paper.h"
@@ -9,6 +10,7 @@
 #include <string.h>
 
 static struct arena keys_arena, arenas[BUFFERS];
+static size_t width; /* bytes of a fingerprint of the lists that are being built */
 
 /* Short lists with the number of attempts that stick. */
 static const struct {
@@ -28,11 +30,12 @@ static const struct {
     {{11173, 11237, 0, 1, 2}, 5, 3},
 };
 
-/* Calls ours with buffers that hold a pattern and end at, or just before, a page that may not be touched. */
+/* Calls ours with buffers that hold a pattern and lie at, or near, a page that may not be touched. */
 static uint32_t build(const uint64_t *keys, size_t n, uint32_t limit, const size_t length[BUFFERS]) {
     uint8_t *lent[BUFFERS];
     for (int i = 0; i < BUFFERS; i++) {
-        lent[i] = arena_lend(&arenas[i], length[i] * element_size[i], below(3) * element_size[i]);
+        size_t size = element_size(i, width);
+        lent[i] = arena_lend(&arenas[i], length[i] * size, below(3) * size, random_border());
         arena_fill(&arenas[i]);
         arena_remember(&arenas[i]);
         if (length[i] == 0 && one_in(2)) {
@@ -41,11 +44,7 @@ static uint32_t build(const uint64_t *keys, size_t n, uint32_t limit, const size
     }
     arena_remember(&keys_arena);
     calls++;
-    return gp_fuse8_build(n == 0 && one_in(2) ? NULL : keys, n, limit, lent[FINGERPRINTS], length[FINGERPRINTS],
-                          (uint32_t *)(void *)lent[LONE], length[LONE], (uint16_t *)(void *)lent[COUNTS], length[COUNTS],
-                          (uint64_t *)(void *)lent[SUMS], length[SUMS], lent[POSITIONS], length[POSITIONS],
-                          (uint64_t *)(void *)lent[ORDER], length[ORDER], (uint32_t *)(void *)lent[STARTS], length[STARTS],
-                          lent[DESCRIPTOR], length[DESCRIPTOR]);
+    return call_build(width, n == 0 && one_in(2) ? NULL : keys, n, limit, lent, length);
 }
 
 /* What a call leaves by the table: refusal 0 is a success, whose fingerprints are those that stand there. */
@@ -55,18 +54,18 @@ static void hold_memory(const uint64_t *keys, size_t n, uint32_t refusal, uint32
     if (refusal == 0 || refusal == 5 || refusal == 6) {
         paper_needed(n, needed);
         for (int i = LONE; i <= STARTS; i++) {
-            arena_due_zero(&arenas[i], needed[i] * element_size[i]);
+            arena_due_zero(&arenas[i], needed[i] * element_size(i, width));
         }
     }
     if (refusal == 6) {
-        arena_due_zero(&arenas[FINGERPRINTS], needed[FINGERPRINTS]);
+        arena_due_zero(&arenas[FINGERPRINTS], needed[FINGERPRINTS] * width);
     }
     if (refusal == 0) {
         paper_descriptor(n, attempt, descriptor);
         arena_due(&arenas[DESCRIPTOR], descriptor, 20);
-        arena_due(&arenas[FINGERPRINTS], arenas[FINGERPRINTS].lent, needed[FINGERPRINTS]);
+        arena_due(&arenas[FINGERPRINTS], arenas[FINGERPRINTS].lent, needed[FINGERPRINTS] * width);
         for (size_t i = 0; i < n; i++) {
-            if (gp_fuse8_contains(descriptor, 20, arenas[FINGERPRINTS].lent, GP_SLOTS_OF(descriptor), keys[i]) != GP_YES) {
+            if (call_contains(width, descriptor, 20, arenas[FINGERPRINTS].lent, GP_SLOTS_OF(descriptor), keys[i]) != GP_YES) {
                 wrong("key %" PRIu64 " of %zu is listed and answered with no", keys[i], n);
             }
         }
@@ -110,7 +109,7 @@ static void random_lengths(size_t n, size_t length[BUFFERS]) {
     }
 }
 
-static uint64_t *lend_keys(size_t n) { return (uint64_t *)(void *)arena_lend(&keys_arena, n * 8, 0); }
+static uint64_t *lend_keys(size_t n) { return (uint64_t *)(void *)arena_lend(&keys_arena, n * 8, 0, random_border()); }
 
 static void test_random_list(void) {
     size_t length[BUFFERS], n = one_in(100) ? GP_MAX_KEYS + 1 - below(3) : any_scale(GP_MAX_KEYS);
@@ -146,12 +145,13 @@ static void test_stuck_list(void) {
     }
 }
 
-void test_builds(unsigned long rounds) {
+void test_builds(size_t width_of_lists, unsigned long rounds) {
     size_t most[BUFFERS] = {GP_MAX_SLOTS,    GP_MAX_SLOTS,    GP_MAX_SLOTS,  GP_MAX_SLOTS,
                             GP_MAX_KEYS + 1, GP_MAX_KEYS + 2, GP_MAX_STARTS, GP_DESCRIPTOR_BYTES};
+    width = width_of_lists;
     arena_open(&keys_arena, (GP_MAX_KEYS + 1) * 8);
     for (int i = 0; i < BUFFERS; i++) {
-        arena_open(&arenas[i], (most[i] + 8) * element_size[i]);
+        arena_open(&arenas[i], (most[i] + 8) * element_size(i, width));
     }
     while (rounds-- > 0) {
         if (one_in(4)) {

@@ -25,7 +25,7 @@ void arena_open(struct arena *arena, size_t bytes) {
         perror("memory for a copy");
         exit(2);
     }
-    arena_lend(arena, inner, 0);
+    arena_lend(arena, inner, 0, AFTER);
     arena_fill(arena);
 }
 
@@ -35,15 +35,10 @@ void arena_close(struct arena *arena) {
     free(arena->copy);
 }
 
-uint8_t *arena_lend(struct arena *arena, size_t bytes, size_t slack) {
-    arena->lent = arena->end - slack - bytes;
+uint8_t *arena_lend(struct arena *arena, size_t bytes, size_t slack, enum border border) {
+    arena->lent = border == AFTER ? arena->end - slack - bytes : arena->begin + slack;
+    arena->lent_end = arena->lent + bytes;
     return arena->lent;
-}
-
-void arena_fill(struct arena *arena) {
-    for (uint8_t *place = arena->lent; place < arena->end; place++) {
-        *place = (uint8_t)(1 + (place - arena->begin) % 251); /* neighbours differ too */
-    }
 }
 
 static size_t first_compared(const struct arena *arena) {
@@ -51,11 +46,20 @@ static size_t first_compared(const struct arena *arena) {
     return lent_at < AROUND ? 0 : lent_at - AROUND;
 }
 
-static size_t compared(const struct arena *arena) { return (size_t)(arena->end - arena->begin) - first_compared(arena); }
+static size_t end_compared(const struct arena *arena) {
+    size_t after = (size_t)(arena->end - arena->lent_end);
+    return (size_t)(arena->lent_end - arena->begin) + (after < AROUND ? after : AROUND);
+}
+
+void arena_fill(struct arena *arena) {
+    for (size_t at = (size_t)(arena->lent - arena->begin); at < end_compared(arena); at++) {
+        arena->begin[at] = (uint8_t)(1 + at % 251); /* neighbours differ too */
+    }
+}
 
 void arena_remember(struct arena *arena) {
     size_t first = first_compared(arena);
-    memcpy(arena->copy + first, arena->begin + first, compared(arena));
+    memcpy(arena->copy + first, arena->begin + first, end_compared(arena) - first);
 }
 
 void arena_due_zero(struct arena *arena, size_t bytes) { memset(arena->copy + (arena->lent - arena->begin), 0, bytes); }
@@ -66,7 +70,7 @@ void arena_due(struct arena *arena, const uint8_t *these, size_t bytes) {
 
 int arena_as_due(const struct arena *arena) {
     size_t first = first_compared(arena);
-    return memcmp(arena->copy + first, arena->begin + first, compared(arena)) == 0;
+    return memcmp(arena->copy + first, arena->begin + first, end_compared(arena) - first) == 0;
 }
 
 void arena_shut(const struct arena *arena) {

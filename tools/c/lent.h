@@ -10,17 +10,18 @@
 struct arena {
     uint8_t *begin, *end;
     uint8_t *copy;
-    uint8_t *lent;
+    uint8_t *lent, *lent_end;
 };
 
 /* At least so many bytes to lend. */
 void arena_open(struct arena *arena, size_t bytes);
 void arena_close(struct arena *arena);
 
-/* Lends so many bytes that end `slack` bytes before the page that may not be touched. */
-uint8_t *arena_lend(struct arena *arena, size_t bytes, size_t slack);
+/* Lends so many bytes, with `slack` bytes between them and a page that may not be touched: the one after or the one before. */
+enum border { AFTER, BEFORE };
+uint8_t *arena_lend(struct arena *arena, size_t bytes, size_t slack, enum border border);
 
-/* Fills what was lent, and all after it, with a pattern that has no zeros. */
+/* Fills what was lent, and what is compared after it, with a pattern that has no zeros. */
 void arena_fill(struct arena *arena);
 
 /* Takes the copy: what is due afterwards, unless the next two say otherwise. */

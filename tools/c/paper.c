@@ -7,7 +7,10 @@
 #include <stdlib.h>
 #include <string.h>
 
-const size_t element_size[BUFFERS] = {1, 4, 2, 8, 1, 8, 4, 1};
+size_t element_size(int buffer, size_t width) {
+    static const size_t of_scratch[BUFFERS] = {0, 4, 2, 8, 1, 8, 4, 1};
+    return buffer == FINGERPRINTS ? width : of_scratch[buffer];
+}
 
 /* ---- hash, seeds, slots ---- */
 
@@ -130,10 +133,10 @@ static void put(uint8_t *bytes, uint64_t number, int count) {
     }
 }
 
-static uint64_t get(const uint8_t *bytes, int count) {
+static uint64_t get(const uint8_t *bytes, size_t count) {
     uint64_t number = 0;
-    for (int i = count - 1; i >= 0; i--) {
-        number = number << 8 | bytes[i];
+    for (size_t i = count; i > 0; i--) {
+        number = number << 8 | bytes[i - 1];
     }
     return number;
 }
@@ -171,9 +174,9 @@ uint32_t paper_read(const uint8_t *descriptor, size_t descriptor_length, uint64_
     return 0;
 }
 
-uint32_t paper_contains(const uint8_t *descriptor, size_t descriptor_length, const uint8_t *fingerprints,
+uint32_t paper_contains(size_t width, const uint8_t *descriptor, size_t descriptor_length, const uint8_t *fingerprints,
                         size_t fingerprints_length, uint64_t key) {
-    uint64_t slots, hash, length, first, second, third;
+    uint64_t slots, hash, length, first, second, third, left;
     uint32_t refusal = paper_read(descriptor, descriptor_length, &slots);
     if (refusal == 0 && fingerprints_length != slots) {
         refusal = 11;
@@ -186,7 +189,9 @@ uint32_t paper_contains(const uint8_t *descriptor, size_t descriptor_length, con
     first = high_product(hash, (uint32_t)get(descriptor + 16, 4));
     second = (first + length) ^ (hash >> 18 & (length - 1));
     third = (first + 2 * length) ^ (hash & (length - 1));
-    return (uint8_t)(hash ^ hash >> 32) == (fingerprints[first] ^ fingerprints[second] ^ fingerprints[third]);
+    left = hash ^ hash >> 32 ^ get(fingerprints + first * width, width) ^ get(fingerprints + second * width, width) ^
+           get(fingerprints + third * width, width);
+    return left << (64 - 8 * width) == 0;
 }
 
 /* ---- flush key ---- */

@@ -1,4 +1,5 @@
-/* Document 01 in plain C, as far as the random test needs it: lengths, refusals, query, flush key. */
+/* Document 01 in plain C, as far as the random test needs it: lengths, refusals, query, flush key. A width is the bytes of a
+ * fingerprint, 1 or 2. */
 #ifndef PAPER_H
 #define PAPER_H
 
@@ -8,8 +9,8 @@
 /* What the build is lent beside the keys, in the order of its parameters. */
 enum buffer { FINGERPRINTS, LONE, COUNTS, SUMS, POSITIONS, ORDER, STARTS, DESCRIPTOR, BUFFERS };
 
-/* Bytes in an element of each buffer. */
-extern const size_t element_size[BUFFERS];
+/* Bytes in an element of a buffer. */
+size_t element_size(int buffer, size_t width);
 
 /* The lengths that a build of n keys needs, in elements. */
 void paper_needed(size_t n, size_t length[BUFFERS]);
@@ -24,7 +25,7 @@ int paper_repeated(const uint64_t *keys, size_t n);
 void paper_descriptor(size_t n, uint32_t attempt, uint8_t descriptor[20]);
 
 /* The answers that are due from the C entries. */
-uint32_t paper_contains(const uint8_t *descriptor, size_t descriptor_length, const uint8_t *fingerprints,
+uint32_t paper_contains(size_t width, const uint8_t *descriptor, size_t descriptor_length, const uint8_t *fingerprints,
                         size_t fingerprints_length, uint64_t key);
 uint32_t paper_flush_key(uint16_t unit, uint8_t valve, int64_t seconds, uint64_t *key);
 

@@ -1,4 +1,5 @@
-/* The query on random, damaged and good descriptors, over fingerprints that end where the readable memory ends. */
+/* The query on random, damaged and good descriptors, over fingerprints that begin or end where the readable memory does. */
+#include "entries.h"
 #include "gillpocketry.h"
 #include "lent.h"
 #include "paper.h"
@@ -43,7 +44,8 @@ static void random_descriptor(uint8_t *bytes) {
     }
 }
 
-/* How many fingerprints to give: those that the descriptor speaks of, if there are so many, or one off, or any number. */
+/* How many fingerprints to give: those that the descriptor speaks of, if there are so many, or one off, or bytes mistaken for
+ * elements, or any number. */
 static size_t random_length(const uint8_t *descriptor, size_t descriptor_length) {
     uint64_t slots = 0;
     paper_read(descriptor, descriptor_length, &slots);
@@ -53,13 +55,16 @@ static size_t random_length(const uint8_t *descriptor, size_t descriptor_length)
     if (slots > 0 && one_in(8)) {
         return (size_t)slots - 1;
     }
+    if (slots <= POOL / 2 && one_in(8)) {
+        return one_in(2) ? 2 * (size_t)slots : (size_t)slots / 2;
+    }
     return (size_t)slots + (size_t)one_in(8);
 }
 
-void test_queries(unsigned long rounds) {
+void test_queries(size_t width, unsigned long rounds) {
     struct arena descriptors, fingerprints;
     arena_open(&descriptors, 24);
-    arena_open(&fingerprints, POOL);
+    arena_open(&fingerprints, POOL * width);
     for (uint8_t *place = fingerprints.begin; place < fingerprints.end; place++) {
         *place = (uint8_t)any();
     }
@@ -71,16 +76,16 @@ void test_queries(unsigned long rounds) {
         uint32_t answer, due;
         const uint8_t *descriptor, *list;
         random_descriptor(bytes);
-        descriptor = memcpy(arena_lend(&descriptors, length, 0), bytes, length);
+        descriptor = memcpy(arena_lend(&descriptors, length, 0, random_border()), bytes, length);
         arena_remember(&descriptors);
         slots = random_length(descriptor, length);
-        list = arena_lend(&fingerprints, slots, 0);
-        due = paper_contains(descriptor, length, list, slots, key);
-        answer = gp_fuse8_contains(length ? descriptor : NULL, length, slots ? list : NULL, slots, key);
+        list = arena_lend(&fingerprints, slots * width, 0, random_border());
+        due = paper_contains(width, descriptor, length, list, slots, key);
+        answer = call_contains(width, length ? descriptor : NULL, length, slots ? list : NULL, slots, key);
         calls++;
         if (answer != due || !arena_as_due(&descriptors)) {
-            wrong("query of key %" PRIu64 ", descriptor length %zu, %zu fingerprints: %" PRIu32 ", due %" PRIu32, key, length,
-                  slots, answer, due);
+            wrong("query of key %" PRIu64 ", descriptor length %zu, %zu fingerprints of %zu bytes: %" PRIu32 ", due %" PRIu32,
+                  key, length, slots, width, answer, due);
         }
         if (due >= GP_REFUSED) {
             refused[due - GP_REFUSED]++;

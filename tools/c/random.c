@@ -1,6 +1,6 @@
 /*
- * A bounded random test of the three C entries, to be run under AddressSanitizer and UBSan: random and damaged inputs, null with
- * length 0, every refusal, and all lent memory with what lies around it compared after each call.
+ * A bounded random test of the C entries, to be run under AddressSanitizer and UBSan: random and damaged inputs, null with
+ * length 0, every refusal at each width, and all lent memory with what lies around it compared after each call.
  *
  * usage: random [SEED [SCALE]]
  */
@@ -31,6 +31,8 @@ uint64_t any(void) { return paper_mix64(state += UINT64_C(0x9e3779b97f4a7c15)); 
 size_t below(size_t bound) { return (size_t)(any() % bound); }
 
 int one_in(size_t n) { return below(n) == 0; }
+
+enum border random_border(void) { return one_in(2) ? AFTER : BEFORE; }
 
 size_t any_scale(size_t most) { return below((most >> below(13)) + 1); }
 
@@ -75,26 +77,35 @@ static void test_flush_keys(unsigned long rounds) {
     }
 }
 
+/* Each refusal from the first to the last was due since they were last counted. */
+static void count_refusals(int first, int last) {
+    printf("  refusals seen:");
+    for (int i = first; i <= last; i++) {
+        printf(" %d: %llu%s", i, refused[i], i < last ? "," : "\n");
+    }
+    for (int i = first; i <= last; i++) {
+        if (refused[i] == 0) {
+            wrong("refusal %d was never due, so it was not tested", i);
+        }
+        refused[i] = 0;
+    }
+}
+
 int main(int count, char **words) {
     uint64_t seed = count > 1 ? strtoull(words[1], NULL, 10) : 1;
     unsigned long scale = count > 2 ? strtoul(words[2], NULL, 10) : 1;
     state = seed;
     setvbuf(stdout, NULL, _IOLBF, BUFSIZ);
     test_header_lengths();
-    test_queries(4000000 * scale);
-    printf("queries: as document 01 says, %llu calls so far\n", calls);
-    test_builds(40000 * scale);
-    printf("builds: as document 01 says, %llu calls so far\n", calls);
+    for (size_t width = 1; width <= 2; width++) {
+        test_queries(width, 4000000 * scale);
+        printf("queries of %zu bits: as document 01 says, %llu calls so far\n", 8 * width, calls);
+        test_builds(width, 40000 * scale);
+        printf("builds of %zu bits: as document 01 says, %llu calls so far\n", 8 * width, calls);
+        count_refusals(GP_TOO_MANY_KEYS, GP_WRONG_FINGERPRINTS);
+    }
     test_flush_keys(1000000 * scale);
     printf("flush keys: as document 01 says, %llu calls in all, seed %" PRIu64 ", scale %lu\n", calls, seed, scale);
-    printf("refusals seen:");
-    for (int i = 1; i <= REFUSALS; i++) {
-        printf(" %d: %llu%s", i, refused[i], i < REFUSALS ? "," : "\n");
-    }
-    for (int i = 1; i <= REFUSALS; i++) {
-        if (refused[i] == 0) {
-            wrong("refusal %d was never due, so it was not tested", i);
-        }
-    }
+    count_refusals(GP_BAD_CLOCK, GP_BAD_CLOCK);
     return 0;
 }

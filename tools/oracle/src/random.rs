@@ -1,6 +1,6 @@
 //! Numbers for tests, the same for the same seed on every machine.
 
-use crate::paper::hash::mix64;
+use crate::paper::hash::{mix64, Fingerprint};
 
 pub struct Random {
     state: u64,
@@ -38,9 +38,7 @@ impl Random {
         choices[self.below(choices.len())]
     }
 
-    pub fn bytes(&mut self, length: usize) -> Vec<u8> {
-        let mut bytes: Vec<u8> = (0..length.div_ceil(8)).flat_map(|_| self.word().to_le_bytes()).collect();
-        bytes.truncate(length);
-        bytes
+    pub fn fingerprints<F: Fingerprint>(&mut self, length: usize) -> Vec<F> {
+        (0..length).map(|_| F::low_bits(self.word())).collect()
     }
 }

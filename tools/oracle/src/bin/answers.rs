@@ -3,18 +3,19 @@
 
 use oracle::keys::{chain, hash_zero_key, SMALL_STUCK_LISTS};
 use oracle::paper::attempt::Built;
-use oracle::paper::hash::mix64;
+use oracle::paper::hash::{mix64, Fingerprint};
 use oracle::paper::layout::{MAX_ATTEMPTS, MAX_KEYS};
 use oracle::paper::query::read;
-use oracle::rust;
+use oracle::rust::{self, Filtered};
 use std::io::{self, BufWriter, Write};
 use std::process::ExitCode;
 
 const HEAD: &str = "\
-# Made by tools/make-replay: what BinaryFuse8::try_from of the Rust crate xorf 0.13.0 answers, built for release.
-# A line is: 0 n, or 1 n and n keys; then seed, segment length, segment count length, digest of the fingerprints.
+# Made by tools/make-replay: what try_from of BinaryFuse8 and BinaryFuse16 of the Rust crate xorf 0.13.0 answers, built for release.
+# A line is: 0 n, or 1 n and n keys; then for 8 bits, and again for 16: seed, segment length, segment count length, digest.
 # After 0 n the keys are mix64(n * 2^32 + i + 1) for i = 0 .. n-1. Four zeros: no attempt from 1 to 1000 is free.
-# The digest begins as 14695981039346656037; each byte is xored into it, then it is multiplied by 1099511628211 modulo 2^64.";
+# The digest is that of the fingerprints' bytes, the low byte of each first. It begins as 14695981039346656037;
+# each byte is xored into it, then it is multiplied by 1099511628211 modulo 2^64.";
 
 fn keys_of_size(size: usize) -> Vec<u64> {
     (0..size as u64).map(|place| mix64(((size as u64) << 32) + place + 1)).collect()
@@ -35,26 +36,32 @@ fn special_lists() -> Vec<Vec<u64>> {
     lists
 }
 
-fn digest(bytes: &[u8]) -> u64 {
-    bytes.iter().fold(0xcbf2_9ce4_8422_2325, |digest, &byte| (digest ^ u64::from(byte)).wrapping_mul(0x100_0000_01b3))
+fn digest<F: Fingerprint>(fingerprints: &[F]) -> u64 {
+    let bytes = fingerprints.iter().flat_map(|fingerprint| fingerprint.bytes());
+    bytes.fold(0xcbf2_9ce4_8422_2325, |digest, byte| (digest ^ u64::from(byte)).wrapping_mul(0x100_0000_01b3))
 }
 
-fn in_words(answer: Option<Built>) -> String {
-    let Some(built) = answer else {
+/// What the Rust answers at one width.
+fn answer<F: Filtered>(keys: &[u64]) -> String {
+    let Some(Built { descriptor, fingerprints, .. }) = rust::build::<F>(keys) else {
         return "0 0 0 0".into();
     };
-    let record = read(&built.descriptor).expect("the Rust's descriptor is accepted");
-    format!("{} {} {} {}", record.seed, record.segment_length, record.count_length, digest(&built.fingerprints))
+    let record = read(&descriptor).expect("the Rust's descriptor is accepted");
+    format!("{} {} {} {}", record.seed, record.segment_length, record.count_length, digest(&fingerprints))
+}
+
+fn answers(keys: &[u64]) -> String {
+    format!("{} {}", answer::<u8>(keys), answer::<u16>(keys))
 }
 
 fn write_list(out: &mut impl Write) -> io::Result<()> {
     writeln!(out, "{HEAD}")?;
     for size in 0..=MAX_KEYS {
-        writeln!(out, "0 {size} {}", in_words(rust::build(&keys_of_size(size))))?;
+        writeln!(out, "0 {size} {}", answers(&keys_of_size(size)))?;
     }
     for keys in special_lists() {
         let listed: String = keys.iter().map(|key| format!("{key} ")).collect();
-        writeln!(out, "1 {} {listed}{}", keys.len(), in_words(rust::build(&keys)))?;
+        writeln!(out, "1 {} {listed}{}", keys.len(), answers(&keys))?;
     }
     Ok(())
 }

@@ -10,13 +10,14 @@ mod ours;
 use oracle::keys::Family;
 use oracle::paper::attempt::{attempt, search, Built};
 use oracle::paper::layout::{MAX_ATTEMPTS, MAX_KEYS};
-use oracle::paper::room::Room;
+use oracle::paper::room::{needed, Room};
 use oracle::random::Random;
 use oracle::rust;
+use ours::Entries;
 use std::hint::black_box;
 use std::process::ExitCode;
 use std::time::Instant;
-use xorf::{BinaryFuse8, Filter};
+use xorf::Filter;
 
 /// Many short batches, spread over the whole run: some of them meet no disturbance. All those of queries are ten million.
 const ROUNDS: usize = 20;
@@ -34,24 +35,24 @@ trait Work {
     fn ours(&mut self, repeats: usize) -> u64;
 }
 
-/// `BinaryFuse8Ref::contains`, its descriptor parsed once, and our C entry, which reads and checks the twenty bytes at every call.
-struct Queries {
-    list: Built,
+/// `contains` of the Rust's reader, its descriptor parsed once, and our C entry, which reads and checks the twenty bytes at every call.
+struct Queries<F> {
+    list: Built<F>,
     asked: Vec<u64>,
 }
 
-impl Queries {
+impl<F: Entries> Queries<F> {
     /// With `mixed`, every second key on average is a listed one, in no order that a machine could learn; without, none is.
     fn of_size(size: usize, mixed: bool) -> Self {
         let mut random = Random::new(1, "queries");
         let keys = Family::Random.keys(size, &mut random);
-        let list = search(&keys, MAX_ATTEMPTS).expect("random keys are built");
+        let list = search(&keys, MAX_ATTEMPTS).expect("random keys are built").filled();
         let asked = (0..ASKED).map(|_| if mixed && random.chance(2) { random.pick(&keys) } else { random.word() }).collect();
         Queries { list, asked }
     }
 }
 
-impl Work for Queries {
+impl<F: Entries> Work for Queries<F> {
     fn rust(&mut self, repeats: usize) -> u64 {
         let reader = black_box(rust::reader(&self.list.descriptor, &self.list.fingerprints));
         let all = || self.asked.iter().map(|key| u64::from(reader.contains(key))).sum::<u64>();
@@ -60,18 +61,18 @@ impl Work for Queries {
 
     fn ours(&mut self, repeats: usize) -> u64 {
         let Built { descriptor, fingerprints, .. } = &self.list;
-        let all = || self.asked.iter().map(|&key| u64::from(ours::contains(descriptor, fingerprints, key))).sum::<u64>();
+        let all = || self.asked.iter().map(|&key| u64::from(F::contains(descriptor, fingerprints, key))).sum::<u64>();
         (0..repeats / ASKED).map(|_| all()).sum()
     }
 }
 
-/// `BinaryFuse8::try_from`, with the memory that it takes for itself, and our C entry, with memory that is lent once.
-struct Builds {
+/// `try_from` of the Rust's filter, with the memory that it takes for itself, and our C entry, with memory that is lent once.
+struct Builds<F> {
     lists: Vec<Vec<u64>>,
-    room: Room,
+    room: Room<F>,
 }
 
-impl Builds {
+impl<F: Entries> Builds<F> {
     /// Lists of random keys whose search ends at this attempt.
     fn of_size(size: usize, ends_at: u32) -> Self {
         let mut random = Random::new(1, "builds");
@@ -82,29 +83,44 @@ impl Builds {
                 lists.push(keys);
             }
         }
-        Builds { lists, room: Room::with_spare(size, 0) }
+        Builds { lists, room: Room::patterned(needed(size)) }
     }
 }
 
-impl Work for Builds {
+impl<F: Entries> Work for Builds<F> {
     fn rust(&mut self, repeats: usize) -> u64 {
-        let first_byte = |keys: &Vec<u64>| {
-            let filter = BinaryFuse8::try_from(keys).expect("a list that is built");
-            u64::from(black_box(&filter).fingerprints[0])
+        let first = |keys: &Vec<u64>| -> u64 {
+            let filter = rust::filter::<F>(keys).expect("a list that is built");
+            F::fingerprints(black_box(&filter))[0].into()
         };
-        self.lists.iter().cycle().take(repeats).map(first_byte).sum()
+        self.lists.iter().cycle().take(repeats).map(first).sum()
     }
 
     fn ours(&mut self, repeats: usize) -> u64 {
-        let mut first_byte = |keys: &Vec<u64>| {
-            ours::build(keys, MAX_ATTEMPTS, &mut self.room);
-            u64::from(black_box(&self.room).fingerprints[0])
+        let mut first = |keys: &Vec<u64>| -> u64 {
+            F::build(keys, MAX_ATTEMPTS, &mut self.room);
+            black_box(&self.room).fingerprints[0].into()
         };
-        self.lists.iter().cycle().take(repeats).map(&mut first_byte).sum()
+        self.lists.iter().cycle().take(repeats).map(&mut first).sum()
     }
 }
 
-const NAMES: [&str; 6] = ["query-mixed", "query-unlisted", "build-100", "build-1000", "build-4096", "build-4096-second-attempt"];
+/// The name of a bench, and what makes it ready.
+type Named = (&'static str, fn() -> Bench);
+
+const BENCHES: [Named; 11] = [
+    ("query-mixed", || Bench::query::<u8>(true)),
+    ("query-unlisted", || Bench::query::<u8>(false)),
+    ("query16-mixed", || Bench::query::<u16>(true)),
+    ("query16-unlisted", || Bench::query::<u16>(false)),
+    ("build-100", || Bench::build::<u8>(100, 1)),
+    ("build-1000", || Bench::build::<u8>(1000, 1)),
+    ("build-4096", || Bench::build::<u8>(4096, 1)),
+    ("build-4096-second-attempt", || Bench::build::<u8>(4096, 2)),
+    ("build16-100", || Bench::build::<u16>(100, 1)),
+    ("build16-1000", || Bench::build::<u16>(1000, 1)),
+    ("build16-4096", || Bench::build::<u16>(4096, 1)),
+];
 
 /// Some work, what one repeat of it is called, the repeats of a batch, and the least time of a repeat so far.
 struct Bench {
@@ -120,29 +136,15 @@ impl Bench {
         Bench { work: Box::new(work), what, repeats, rust: f64::INFINITY, ours: f64::INFINITY }
     }
 
-    fn query(size: usize, mixed: bool) -> Self {
-        let what = format!(
-            "query of a list of {size} keys, {}",
-            if mixed { "half of those asked listed" } else { "none of those asked listed" }
-        );
-        Bench::new(Queries::of_size(size, mixed), what, QUERIES_OF_BATCH)
+    fn query<F: Entries + 'static>(mixed: bool) -> Self {
+        let listed = if mixed { "half" } else { "none" };
+        let what = format!("{} bits: query of a list of {MAX_KEYS} keys, {listed} of those asked listed", F::BITS);
+        Bench::new(Queries::<F>::of_size(MAX_KEYS, mixed), what, QUERIES_OF_BATCH)
     }
 
-    fn build(size: usize, ends_at: u32) -> Self {
-        let what = format!("build of {size} keys, ends at attempt {ends_at}");
-        Bench::new(Builds::of_size(size, ends_at), what, KEYS_OF_BATCH / size)
-    }
-
-    fn named(name: &str) -> Option<Self> {
-        match name {
-            "query-mixed" => Some(Bench::query(MAX_KEYS, true)),
-            "query-unlisted" => Some(Bench::query(MAX_KEYS, false)),
-            "build-100" => Some(Bench::build(100, 1)),
-            "build-1000" => Some(Bench::build(1000, 1)),
-            "build-4096" => Some(Bench::build(4096, 1)),
-            "build-4096-second-attempt" => Some(Bench::build(4096, 2)),
-            _ => None,
-        }
+    fn build<F: Entries + 'static>(size: usize, ends_at: u32) -> Self {
+        let what = format!("{} bits: build of {size} keys, ends at attempt {ends_at}", F::BITS);
+        Bench::new(Builds::<F>::of_size(size, ends_at), what, KEYS_OF_BATCH / size)
     }
 
     fn round(&mut self) -> Result<(), String> {
@@ -167,18 +169,19 @@ fn nanoseconds(repeats: usize, side: impl FnOnce(usize) -> u64) -> (f64, u64) {
 }
 
 fn times() -> Result<(), String> {
-    let mut benches = NAMES.map(|name| Bench::named(name).expect("a name of the list"));
+    let mut benches = BENCHES.map(|(name, bench)| (name, bench()));
     for _ in 0..ROUNDS {
-        benches.iter_mut().try_for_each(Bench::round)?;
+        benches.iter_mut().try_for_each(|(_, bench)| bench.round())?;
     }
-    for (name, bench) in NAMES.iter().zip(benches) {
+    for (name, bench) in benches {
         println!("{name}\t{}\t{:.2}\t{:.2}", bench.what, bench.rust, bench.ours);
     }
     Ok(())
 }
 
 fn only(name: &str, side: &str, repeats: &str) -> Option<()> {
-    let mut work = Bench::named(name)?.work;
+    let (_, bench) = BENCHES.iter().find(|(known, _)| *known == name)?;
+    let mut work = bench().work;
     let repeats = repeats.parse().ok()?;
     match side {
         "rust" => black_box(work.rust(repeats)),

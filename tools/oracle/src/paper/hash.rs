@@ -1,5 +1,8 @@
 //! Modules 1, 2, 3 and 5: hash, seeds, fingerprint, the three slots.
 
+use std::fmt::{Debug, Display};
+use std::ops::BitXor;
+
 const FIRST_FACTOR: u64 = 0xff51_afd7_ed55_8ccd;
 const SECOND_FACTOR: u64 = 0xc4ce_b9fe_1a85_ec53;
 
@@ -38,8 +41,34 @@ pub fn seed(attempt: u32) -> u64 {
     second ^ (second >> 31)
 }
 
-pub fn fingerprint(hash: u64) -> u8 {
-    (hash ^ (hash >> 32)) as u8
+/// The element of a list's fingerprints. Lists of 8 and of 16 bits differ in nothing else.
+pub trait Fingerprint: Copy + Default + PartialEq + Debug + Display + BitXor<Output = Self> + Into<u64> + TryFrom<u64> {
+    const BITS: usize = 8 * std::mem::size_of::<Self>();
+
+    /// The number modulo 2^BITS.
+    fn low_bits(number: u64) -> Self;
+
+    /// Its bytes, the low one first.
+    fn bytes(self) -> impl Iterator<Item = u8> {
+        let number: u64 = self.into();
+        number.to_le_bytes().into_iter().take(Self::BITS / 8)
+    }
+}
+
+impl Fingerprint for u8 {
+    fn low_bits(number: u64) -> Self {
+        number as u8
+    }
+}
+
+impl Fingerprint for u16 {
+    fn low_bits(number: u64) -> Self {
+        number as u16
+    }
+}
+
+pub fn fingerprint<F: Fingerprint>(hash: u64) -> F {
+    F::low_bits(hash ^ (hash >> 32))
 }
 
 pub fn slots(hash: u64, segment_length: u32, count_length: u32) -> [usize; 3] {

@@ -1,6 +1,6 @@
 //! Module 6, checks 7 to 11, and module 7: descriptor and query, with the numbers of the C entry.
 
-use super::hash::{fingerprint, mix, slots};
+use super::hash::{fingerprint, mix, slots, Fingerprint};
 
 pub const NO: u32 = 0;
 pub const YES: u32 = 1;
@@ -69,14 +69,14 @@ pub fn accepted(descriptor: &[u8], fingerprints: usize) -> Result<Record, u32> {
     Ok(record)
 }
 
-pub fn contains(descriptor: &[u8], fingerprints: &[u8], key: u64) -> u32 {
+pub fn contains<F: Fingerprint>(descriptor: &[u8], fingerprints: &[F], key: u64) -> u32 {
     let record = match accepted(descriptor, fingerprints.len()) {
         Ok(record) => record,
         Err(number) => return REFUSED + number,
     };
     let hash = mix(key, record.seed);
     let stored = slots(hash, record.segment_length, record.count_length).map(|slot| fingerprints[slot]);
-    if fingerprint(hash) == stored[0] ^ stored[1] ^ stored[2] {
+    if fingerprint::<F>(hash) == stored[0] ^ stored[1] ^ stored[2] {
         YES
     } else {
         NO

@@ -1,6 +1,7 @@
 //! "Answers": refusals 1 to 6, what each leaves in lent memory, and the numbers of the C entry of the build.
 
-use super::attempt::{search, Built};
+use super::attempt::{search, Built, Picks};
+use super::hash::Fingerprint;
 use super::layout::{bucket_starts, plain, MAX_ATTEMPTS, MAX_KEYS};
 
 /// The C entry's answer for a refusal is this plus the refusal's number.
@@ -8,8 +9,8 @@ pub const BUILD_REFUSED: u32 = 65_536;
 
 /// All that a build is lent, and the room for the twenty bytes.
 #[derive(Clone, PartialEq)]
-pub struct Room {
-    pub fingerprints: Vec<u8>,
+pub struct Room<F> {
+    pub fingerprints: Vec<F>,
     pub lone: Vec<u32>,
     pub counts: Vec<u16>,
     pub sums: Vec<u64>,
@@ -21,11 +22,13 @@ pub struct Room {
 
 pub const BUFFERS: usize = 8;
 
-impl Room {
-    /// Buffers of these lengths, in the order of the fields, that hold a pattern: no zeros, and neighbours differ.
+impl<F: Fingerprint> Room<F> {
+    /// Buffers of these lengths, in the order of the fields, that hold a pattern: no zero bytes, and neighbours differ.
     pub fn patterned(lengths: [usize; BUFFERS]) -> Self {
-        fn pattern<T: TryFrom<usize>>(length: usize) -> Vec<T> {
-            (0..length).map(|place| T::try_from(1 + place % 251).ok().expect("at most 251")).collect()
+        fn pattern<T: TryFrom<u64>>(length: usize) -> Vec<T> {
+            let unused_bits = u64::BITS as usize - 8 * std::mem::size_of::<T>();
+            let element = |place: u64| T::try_from(((1 + place % 251) * 0x0101_0101_0101_0101) >> unused_bits);
+            (0..length as u64).map(|place| element(place).ok().expect("as many bits as an element has")).collect()
         }
         let [fingerprints, lone, counts, sums, positions, order, starts, descriptor] = lengths;
         Room {
@@ -40,24 +43,6 @@ impl Room {
         }
     }
 
-    /// Each buffer longer than `size` keys need, by `spare` elements.
-    pub fn with_spare(size: usize, spare: usize) -> Self {
-        Room::patterned(needed(size).map(|length| length + spare))
-    }
-
-    pub fn lengths(&self) -> [usize; BUFFERS] {
-        [
-            self.fingerprints.len(),
-            self.lone.len(),
-            self.counts.len(),
-            self.sums.len(),
-            self.positions.len(),
-            self.order.len(),
-            self.starts.len(),
-            self.descriptor.len(),
-        ]
-    }
-
     /// "Scratch zeroed": the needed part of each buffer.
     fn zero_scratch(&mut self, size: usize) {
         let [_, lone, counts, sums, positions, order, starts, _] = needed(size);
@@ -70,7 +55,7 @@ impl Room {
     }
 
     /// Leaves what the table says for this outcome of a build of `size` keys, and gives the C entry's answer.
-    pub fn leave(&mut self, size: usize, outcome: &Result<Built, u32>) -> u32 {
+    pub fn leave(&mut self, size: usize, outcome: &Result<Built<F>, u32>) -> u32 {
         match outcome {
             Ok(built) => {
                 self.fingerprints[..built.fingerprints.len()].copy_from_slice(&built.fingerprints);
@@ -80,7 +65,7 @@ impl Room {
             }
             Err(number) => {
                 if *number == 6 {
-                    self.fingerprints[..needed(size)[0]].fill(0);
+                    self.fingerprints[..needed(size)[0]].fill(F::default());
                 }
                 if *number == 5 || *number == 6 {
                     self.zero_scratch(size);
@@ -91,7 +76,7 @@ impl Room {
     }
 
     /// The first place where two rooms of the same lengths differ, in words.
-    pub fn difference(&self, other: &Room) -> Option<String> {
+    pub fn difference(&self, other: &Self) -> Option<String> {
         fn first<T: PartialEq + std::fmt::Display>(name: &str, ours: &[T], due: &[T]) -> Option<String> {
             let place = (0..ours.len()).find(|&place| ours[place] != due[place])?;
             Some(format!("{name}[{place}] is {} and should be {}", ours[place], due[place]))
@@ -107,10 +92,31 @@ impl Room {
     }
 }
 
-/// The lengths that a build of `size` keys needs, in the order of Room's fields.
+impl Room<u16> {
+    /// The room with each fingerprint modulo 256.
+    pub fn modulo_256(self) -> Room<u8> {
+        Room {
+            fingerprints: self.fingerprints.into_iter().map(|wide| wide as u8).collect(),
+            lone: self.lone,
+            counts: self.counts,
+            sums: self.sums,
+            positions: self.positions,
+            order: self.order,
+            starts: self.starts,
+            descriptor: self.descriptor,
+        }
+    }
+}
+
+/// The lengths that a build of `size` keys needs, in elements, in the order of Room's fields.
 pub fn needed(size: usize) -> [usize; BUFFERS] {
     let slots = plain(size).slots();
     [slots, slots, slots, slots, size, size + 1, bucket_starts(size), 20]
+}
+
+/// The same, each longer by `spare`.
+pub fn with_spare(size: usize, spare: usize) -> [usize; BUFFERS] {
+    needed(size).map(|length| length + spare)
 }
 
 /// The refusal by lengths and limit alone, if any: 7 for the descriptor's room first (ours, not the paper's), then 1 to 4.
@@ -137,8 +143,8 @@ fn repeated(keys: &[u64]) -> bool {
     sorted.windows(2).any(|pair| pair[0] == pair[1])
 }
 
-/// The outcome of a build for every input.
-pub fn outcome(keys: &[u64], limit: u32, lengths: [usize; BUFFERS]) -> Result<Built, u32> {
+/// The outcome of a build for every input, at every width.
+pub fn outcome(keys: &[u64], limit: u32, lengths: [usize; BUFFERS]) -> Result<Picks, u32> {
     match refused_at_once(keys.len(), limit, lengths) {
         Some(number) => Err(number),
         None if repeated(keys) => Err(5),

@@ -1,13 +1,14 @@
 //! Lists that stick at first, keys whose hash is 0 on the way, and the list that sticks a thousand times.
 
-use crate::hold::{hold_build, hold_list, shown, Tally};
+use crate::hold::{hold_build, hold_list, shown};
+use crate::tally::Tally;
 use crate::Asked;
 use oracle::keys::{chain, hash_zero_key, Family, SMALL_STUCK_LISTS};
-use oracle::paper::attempt::attempt;
+use oracle::paper::attempt::{attempt, Picks};
 use oracle::paper::layout::{MAX_ATTEMPTS, MAX_KEYS};
-use oracle::paper::room::Room;
+use oracle::paper::room::with_spare;
 use oracle::random::Random;
-use oracle::rust;
+use oracle::rust::{self, Filtered};
 
 const SPARE: usize = 3;
 /// Sizes at which most random lists stick in attempt 1, because L has just doubled.
@@ -25,7 +26,7 @@ pub fn compare(asked: &Asked, tally: &mut Tally) -> Result<(), String> {
     println!("  sizes at which attempt 1 mostly sticks: equal");
     thousand_attempts(tally)?;
     println!("  the list that sticks a thousand times: equal");
-    match (2..=6).find(|number| !tally.attempts.contains_key(number)) {
+    match (2..=6).find(|number| !tally.at::<u8>().attempts.contains_key(number)) {
         Some(number) => Err(format!("no list ended at attempt {number}, so nothing was compared there")),
         None => Ok(()),
     }
@@ -33,12 +34,12 @@ pub fn compare(asked: &Asked, tally: &mut Tally) -> Result<(), String> {
 
 /// A list whose search ends at a later attempt is refused with 6 by every smaller limit, and built by just that limit.
 fn hold_limits(tally: &mut Tally, keys: &[u64], ends_at: u32) -> Result<(), String> {
-    let room = Room::with_spare(keys.len(), SPARE);
+    let lengths = with_spare(keys.len(), SPARE);
     if ends_at > 1 {
-        hold_build(tally, keys, ends_at - 1, room.clone(), &Err(6))?;
+        hold_build(tally, keys, ends_at - 1, lengths, &Err(6))?;
     }
-    let built = attempt(keys, ends_at).ok_or("the attempt that ended the search sticks")?;
-    hold_build(tally, keys, ends_at, room, &Ok(built))
+    let picks = attempt(keys, ends_at).ok_or("the attempt that ended the search sticks")?;
+    hold_build(tally, keys, ends_at, lengths, &Ok(picks))
 }
 
 fn small_lists(tally: &mut Tally, random: &mut Random) -> Result<(), String> {
@@ -113,17 +114,23 @@ fn often_stuck(tally: &mut Tally, random: &mut Random, scale: usize) -> Result<(
 /// 1,001 keys of one chain are stuck in all attempts; without the last key, in all but the last.
 fn thousand_attempts(tally: &mut Tally) -> Result<(), String> {
     let keys = chain(0, MAX_ATTEMPTS);
-    let room = |keys: &[u64]| Room::with_spare(keys.len(), SPARE);
-    if rust::build(&keys).is_some() {
-        return Err("the Rust builds the list that should stick in all attempts".into());
-    }
-    hold_build(tally, &keys, MAX_ATTEMPTS, room(&keys), &Err(6))?;
-
     let shorter = &keys[..keys.len() - 1];
-    let built = rust::build(shorter).ok_or("the Rust should build the list that is shorter by one key")?;
-    if built.attempt != MAX_ATTEMPTS {
-        return Err(format!("the Rust ends at attempt {} where only the last is free", built.attempt));
+    let last = attempt(shorter, MAX_ATTEMPTS).ok_or("the last attempt sticks without the last key too")?;
+    rust_takes_the_last::<u8>(&keys, &last)?;
+    rust_takes_the_last::<u16>(&keys, &last)?;
+
+    let lengths = with_spare(keys.len(), SPARE);
+    hold_build(tally, &keys, MAX_ATTEMPTS, lengths, &Err(6))?;
+    hold_build(tally, shorter, MAX_ATTEMPTS, lengths, &Ok(last))?;
+    hold_build(tally, shorter, MAX_ATTEMPTS - 1, lengths, &Err(6))
+}
+
+fn rust_takes_the_last<F: Filtered>(keys: &[u64], last: &Picks) -> Result<(), String> {
+    if rust::build::<F>(keys).is_some() {
+        return Err(format!("at {} bits the Rust builds the list that should stick in all attempts", F::BITS));
     }
-    hold_build(tally, shorter, MAX_ATTEMPTS, room(shorter), &Ok(built))?;
-    hold_build(tally, shorter, MAX_ATTEMPTS - 1, room(shorter), &Err(6))
+    if rust::build::<F>(&keys[..keys.len() - 1]) != Some(last.filled()) {
+        return Err(format!("at {} bits the Rust does not build by the last attempt, where only that is free", F::BITS));
+    }
+    Ok(())
 }

@@ -1,6 +1,6 @@
 //! Flush keys against document 01's formula: borders and random triples.
 
-use crate::hold::Tally;
+use crate::tally::Tally;
 use crate::{ours, Asked};
 use oracle::paper::flush::{key, MAX_HOUR, SECONDS_OF_HOUR};
 use oracle::paper::query::REFUSED;
@@ -33,9 +33,8 @@ fn hold(tally: &mut Tally, unit: u16, valve: u8, seconds: i64) -> Result<(), Str
     let mut ours = UNTOUCHED;
     let answer = ours::flush_key(unit, valve, seconds, &mut ours);
     let due = key(unit, valve, seconds);
-    if let Err(refused) = due {
-        *tally.refusals.entry(refused - REFUSED).or_default() += 1;
-    }
+    tally.flush_keys += 1;
+    tally.flush_keys_refused += u64::from(due == Err(REFUSED + 12));
     let (due_answer, due_key) = due.map_or_else(|refused| (refused, UNTOUCHED), |key| (0, key));
     if (answer, ours) == (due_answer, due_key) {
         return Ok(());

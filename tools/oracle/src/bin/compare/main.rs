@@ -1,5 +1,5 @@
-//! Holds our library to the Rust crate on the stated inputs, and to a plain reading of document 01 elsewhere. Stops at the first
-//! difference, says what it was, and ends with status 1.
+//! Holds our library to the Rust crate on the stated inputs, and to a plain reading of document 01 elsewhere, at 8 and at 16 bits.
+//! Stops at the first difference, says what it was, and ends with status 1.
 
 #[path = "../../ours.rs"]
 mod ours;
@@ -12,10 +12,11 @@ mod outside;
 mod queries;
 mod refusals;
 mod sizes;
+mod tally;
 
-use hold::Tally;
 use std::process::ExitCode;
 use std::time::Instant;
+use tally::Tally;
 
 /// What the command line asks for.
 pub struct Asked {
@@ -28,7 +29,7 @@ type Section = fn(&Asked, &mut Tally) -> Result<(), String>;
 const SECTIONS: [(&str, Section); 7] = [
     ("every size", sizes::compare),
     ("lists that need several attempts", attempts::compare),
-    ("queries of random descriptors and bytes", queries::compare),
+    ("queries of random descriptors and fingerprints", queries::compare),
     ("damaged descriptors", descriptors::compare),
     ("refusals of the build, and what they leave", refusals::compare),
     ("flush keys", flush::compare),

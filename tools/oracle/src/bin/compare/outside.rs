@@ -1,16 +1,18 @@
 //! Outside the stated inputs: what the Rust does there, shown by the smallest inputs known, and that ours follows document 01.
 
-use crate::hold::{hold_build, shown, Tally};
-use crate::{ours, Asked};
+use crate::hold::{hold_build, shown};
+use crate::ours::Entries;
+use crate::tally::Tally;
+use crate::Asked;
 use oracle::keys::{chain, crowd_of_64, crowded_list};
-use oracle::paper::attempt::{most_touched, Built};
+use oracle::paper::attempt::{most_touched, Built, Picks};
 use oracle::paper::hash::{key_of_hash, seed};
 use oracle::paper::layout::{MAX_ATTEMPTS, MAX_KEYS};
 use oracle::paper::query::{contains, Record, REFUSED};
-use oracle::paper::room::{needed, outcome, Room};
+use oracle::paper::room::{outcome, with_spare};
 use oracle::random::Random;
-use oracle::rust;
-use std::panic::{catch_unwind, set_hook, take_hook, UnwindSafe};
+use oracle::rust::{self, Filtered};
+use std::panic::{catch_unwind, set_hook, take_hook, AssertUnwindSafe};
 
 const SPARE: usize = 3;
 
@@ -30,12 +32,21 @@ fn all(asked: &Asked, tally: &mut Tally) -> Result<(), String> {
     crowded_lists(tally, &mut random, 400 * asked.scale)
 }
 
-/// What the Rust gives, or the words of its panic.
-fn caught<T>(call: impl FnOnce() -> T + UnwindSafe) -> Result<T, String> {
-    catch_unwind(call).map_err(|panic| match panic.downcast::<String>() {
+/// What the Rust gives, or the words of its panic. Nothing that a call has changed is used after a panic.
+fn caught<T>(call: impl FnOnce() -> T) -> Result<T, String> {
+    catch_unwind(AssertUnwindSafe(call)).map_err(|panic| match panic.downcast::<String>() {
         Ok(words) => *words,
         Err(panic) => panic.downcast::<&str>().map_or("no words".into(), |words| words.to_string()),
     })
+}
+
+/// What is told of each width, once if it is the same.
+fn both(narrow: String, wide: String) -> String {
+    if narrow == wide {
+        narrow
+    } else {
+        format!("{narrow}; at 16 bits: {wide}")
+    }
 }
 
 fn keys_of_hashes(hashes: &[u64]) -> Vec<u64> {
@@ -65,29 +76,34 @@ fn lists() -> Vec<(&'static str, Vec<u64>)> {
 fn show_builds(tally: &mut Tally) -> Result<(), String> {
     println!("  (where hashes are given, they are those of attempt 1: key = unmix64(hash) - seed, modulo 2^64)");
     for (what, keys) in lists() {
-        let lengths = needed(keys.len().min(MAX_KEYS)).map(|length| length + SPARE);
+        let lengths = with_spare(keys.len().min(MAX_KEYS), SPARE);
         let due = outcome(&keys, MAX_ATTEMPTS, lengths);
-        hold_build(tally, &keys, MAX_ATTEMPTS, Room::patterned(lengths), &due)?;
+        hold_build(tally, &keys, MAX_ATTEMPTS, lengths, &due)?;
         let ours = match &due {
-            Ok(built) => format!("attempt {} ends the search", built.attempt),
+            Ok(picks) => format!("attempt {} ends the search", picks.attempt),
             Err(number) => format!("refused with {number}"),
         };
-        let rust = caught(|| rust::build(&keys));
-        if rust == Ok(due.ok()) {
+        if rust_as_due::<u8>(&keys, &due) || rust_as_due::<u16>(&keys, &due) {
             return Err(format!("{what}: the Rust does as document 01 says, so there is nothing to show"));
         }
-        println!("  {what}\n    {}\n    the Rust: {}\n    ours, as document 01 says: {ours}", shown(&keys), told(&keys, rust));
+        let rust = both(told::<u8>(&keys), told::<u16>(&keys));
+        println!("  {what}\n    {}\n    the Rust: {rust}\n    ours, as document 01 says: {ours}", shown(&keys));
     }
     Ok(())
 }
 
-fn told(keys: &[u64], rust: Result<Option<Built>, String>) -> String {
-    match rust {
+fn rust_as_due<F: Filtered>(keys: &[u64], due: &Result<Picks, u32>) -> bool {
+    caught(|| rust::build::<F>(keys)) == Ok(due.as_ref().ok().map(Picks::filled))
+}
+
+/// What the Rust makes of the keys.
+fn told<F: Filtered>(keys: &[u64]) -> String {
+    match caught(|| rust::build::<F>(keys)) {
         Err(words) => format!("panic, {words}"),
         Ok(None) => "Err".into(),
-        Ok(Some(built)) => {
-            let lost = keys.iter().filter(|&&key| !rust::contains(&built.descriptor, &built.fingerprints, key)).count();
-            format!("attempt {} ends the search, {lost} listed keys are answered with no", built.attempt)
+        Ok(Some(Built { attempt, descriptor, fingerprints })) => {
+            let lost = keys.iter().filter(|&&key| !rust::contains(&descriptor, &fingerprints, key)).count();
+            format!("attempt {attempt} ends the search, {lost} listed keys are answered with no")
         }
     }
 }
@@ -95,7 +111,6 @@ fn told(keys: &[u64], rust: Result<Option<Built>, String>) -> String {
 /// Bytes that are no list: the good ones of 01's smallest layout, with one thing wrong.
 fn show_queries(tally: &mut Tally) -> Result<(), String> {
     let good = Record { seed: 1, segment_length: 4, mask: 3, count_length: 4 };
-    let fingerprints = [0; 16];
     let cases: [(&str, Vec<u8>, usize); 7] = [
         ("19 descriptor bytes", good.bytes()[..19].to_vec(), 12),
         ("segment length 3, mask 2", Record { segment_length: 3, mask: 2, count_length: 6, ..good }.bytes().to_vec(), 12),
@@ -106,24 +121,32 @@ fn show_queries(tally: &mut Tally) -> Result<(), String> {
         ("no fingerprints", good.bytes().to_vec(), 0),
     ];
     for (what, descriptor, length) in cases {
-        let fingerprints = &fingerprints[..length];
-        let (answer, due) = (ours::contains(&descriptor, fingerprints, 0), contains(&descriptor, fingerprints, 0));
-        tally.queries += 1;
-        if answer != due || due < REFUSED {
-            return Err(format!("{what}: ours answers {answer}, due is {due}"));
-        }
-        let rust = match caught(|| rust::contains(&descriptor, fingerprints, 0)) {
-            Ok(yes) => if yes { "yes" } else { "no" }.into(),
-            Err(words) => format!("panic, {words}"),
-        };
-        println!("  query with {what}\n    the Rust: {rust}\n    ours, as document 01 says: refused with {}", due - REFUSED);
+        let due = contains(&descriptor, &vec![0u8; length], 0);
+        let narrow = hold_refused_query::<u8>(tally, &descriptor, length, due).map_err(|wrong| format!("{what}: {wrong}"))?;
+        let wide = hold_refused_query::<u16>(tally, &descriptor, length, due).map_err(|wrong| format!("{what}: {wrong}"))?;
+        let (rust, ours) = (both(narrow, wide), due - REFUSED);
+        println!("  query with {what}\n    the Rust: {rust}\n    ours, as document 01 says: refused with {ours}");
     }
     Ok(())
 }
 
+/// A query over so many zeros that ours must refuse. Gives what the Rust answers.
+fn hold_refused_query<F: Entries>(tally: &mut Tally, descriptor: &[u8], length: usize, due: u32) -> Result<String, String> {
+    let fingerprints = vec![F::default(); length];
+    let answer = F::contains(descriptor, &fingerprints, 0);
+    tally.at::<F>().queries += 1;
+    if answer != due || due < REFUSED {
+        return Err(format!("ours answers {answer} at {} bits, due is {due}", F::BITS));
+    }
+    Ok(match caught(|| rust::contains(descriptor, &fingerprints, 0)) {
+        Ok(yes) => if yes { "yes" } else { "no" }.into(),
+        Err(words) => format!("panic, {words}"),
+    })
+}
+
 /// Random lists with a slot that 64 keys or more touch, some of them stuck for some attempts, some with a repeated key.
 fn crowded_lists(tally: &mut Tally, random: &mut Random, lists: usize) -> Result<(), String> {
-    let mut unlike_rust = 0;
+    let (mut unlike, mut unlike_wide) = (0, 0);
     for _ in 0..lists {
         let crowd = 64 + random.any_scale(600);
         let size = crowd + random.any_scale(MAX_KEYS - crowd);
@@ -136,13 +159,13 @@ fn crowded_lists(tally: &mut Tally, random: &mut Random, lists: usize) -> Result
         } else if random.chance(8) {
             keys.splice(..6, chain(random.word(), 5));
         }
-        let room = Room::with_spare(size, SPARE);
-        let due = outcome(&keys, MAX_ATTEMPTS, room.lengths());
-        hold_build(tally, &keys, MAX_ATTEMPTS, room, &due)?;
-        unlike_rust += usize::from(caught(|| rust::build(&keys)) != Ok(due.ok()));
+        let lengths = with_spare(size, SPARE);
+        let due = outcome(&keys, MAX_ATTEMPTS, lengths);
+        hold_build(tally, &keys, MAX_ATTEMPTS, lengths, &due)?;
+        unlike += usize::from(!rust_as_due::<u8>(&keys, &due));
+        unlike_wide += usize::from(!rust_as_due::<u16>(&keys, &due));
     }
-    println!(
-        "  {lists} random lists with 64 keys or more at one slot: as document 01 says; the Rust does otherwise in {unlike_rust}"
-    );
+    let unlike = both(unlike.to_string(), unlike_wide.to_string());
+    println!("  {lists} random lists with 64 keys or more at one slot: as document 01 says; the Rust does otherwise in {unlike}");
     Ok(())
 }

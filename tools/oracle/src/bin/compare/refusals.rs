@@ -1,10 +1,11 @@
 //! Refusals 1 to 6 of the build (and 7 for the descriptor's room), alone and several at once, with all that they leave behind.
 
-use crate::hold::{hold_build, Tally};
+use crate::hold::hold_build;
+use crate::tally::Tally;
 use crate::Asked;
 use oracle::keys::{chain, Family};
 use oracle::paper::layout::{MAX_ATTEMPTS, MAX_KEYS};
-use oracle::paper::room::{needed, outcome, Room, BUFFERS};
+use oracle::paper::room::{needed, outcome, with_spare, BUFFERS};
 use oracle::random::Random;
 
 const LIMITS: [u32; 8] = [0, 1, 2, 3, MAX_ATTEMPTS - 1, MAX_ATTEMPTS, MAX_ATTEMPTS + 1, u32::MAX];
@@ -21,16 +22,14 @@ pub fn compare(asked: &Asked, tally: &mut Tally) -> Result<(), String> {
         several_faults(tally, &mut random)?;
     }
     println!("  several faults at once: as document 01 says");
-    match (1..=7).find(|number| !tally.refusals.contains_key(number)) {
-        Some(number) => Err(format!("refusal {number} was never due, so nothing was compared there")),
-        None => Ok(()),
-    }
+    tally.at::<u8>().all_refused(1..=7)?;
+    tally.at::<u16>().all_refused(1..=7)
 }
 
 /// Ours is held to the plain reading of document 01, in a room of these lengths.
 fn hold(tally: &mut Tally, keys: &[u64], limit: u32, lengths: [usize; BUFFERS]) -> Result<(), String> {
     let due = outcome(keys, limit, lengths);
-    hold_build(tally, keys, limit, Room::patterned(lengths), &due).map_err(|what| format!("room {lengths:?}: {what}"))
+    hold_build(tally, keys, limit, lengths, &due).map_err(|what| format!("room {lengths:?}: {what}"))
 }
 
 fn one_fault_each(tally: &mut Tally, keys: &[u64]) -> Result<(), String> {
@@ -45,7 +44,7 @@ fn one_fault_each(tally: &mut Tally, keys: &[u64]) -> Result<(), String> {
         short[buffer] = 0;
         hold(tally, keys, MAX_ATTEMPTS, short)?;
     }
-    repeated_keys(tally, keys, exact.map(|length| length + 2))
+    repeated_keys(tally, keys, with_spare(keys.len(), 2))
 }
 
 /// The same key twice: the first two, the last two, the first and the last.

@@ -1,6 +1,7 @@
 //! Every size from none to the limit, for each family of keys.
 
-use crate::hold::{hold_list, Tally};
+use crate::hold::hold_list;
+use crate::tally::Tally;
 use crate::Asked;
 use oracle::keys::FAMILIES;
 use oracle::paper::layout::MAX_KEYS;
@@ -18,10 +19,7 @@ pub fn compare(asked: &Asked, tally: &mut Tally) -> Result<(), String> {
                 let keys = family.keys(size, &mut random);
                 hold_list(tally, &keys, &mut random).map_err(|what| format!("keys {name}: {what}"))?;
             }
-            println!(
-                "  round {round} of {rounds}: sizes 0..{MAX_KEYS}, keys {name}: equal ({} builds, {} queries so far)",
-                tally.builds, tally.queries
-            );
+            println!("  round {round} of {rounds}: sizes 0..{MAX_KEYS}, keys {name}: equal (so far {})", tally.so_far());
         }
     }
     Ok(())
