@@ -17,7 +17,7 @@ numberOf SegmentLength = 8  -- segment length L no power of two in 4..262,144
 numberOf Mask = 9  -- mask is not L - 1
 numberOf CountLength = 10  -- segment count length 0, no multiple of L, or with 2L added above 2^31 - 1
 numberOf FingerprintLength = 11  -- fingerprints given are not exactly that length + 2L
-numberOf Clock = 12  -- clock below zero, or flush hour above 2^39 - 1
+numberOf Clock = 12  -- flush hour outside -2^39 .. 2^39 - 1 (document 02, wish 3)
 
 -- what a C program is told of a refusal: "16 plus the number"
 abbrev pub codeOf : (number : ℕ) → ℕ

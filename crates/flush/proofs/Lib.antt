@@ -1,1 +1,3 @@
-pub mod Clock
+pub mod Sums
+pub mod Rounded
+pub mod HeldHours

@@ -1,26 +1,41 @@
--- Document 01, "Flush key" and answer 12. The hour is seconds / 3,600 with the remainder dropped; a clock below zero is refused.
--- Assumes nothing.
-use Prim.Native.Nat.{ℕ, _+_, _-_, _*_, _/_, _^_}
-use lib.IntN.{ℤ, pos, negsuc}
-use lib.Dec.{ltb}
+-- Document 01, "Flush key" and answer 12, as document 02, wish 3, corrects them: the hour is the floor of seconds / 3,600, hours -2^39
+-- to 2^39 - 1 are good, and the key holds the hour modulo 2^40. Assumes nothing.
+use Prim.Native.Nat.{ℕ, _+_, _-_, _*_, _^_}
+use lib.IntN.{ℤ, pos, negℤ}
+use lib.Signed.{ltZ}
 use Rattle.answers.specs.Answers.{numberOf, Answer, refuses, gives}
 use Rattle.answers.specs.Checks.{refuseIf, _then_}
+use Rattle.flush.specs.Floor.{floorDiv, modulo}
 use Rattle.flush.specs.declared.KeyAnswer.{KeyAnswer}
 use Rattle.flush.specs.declared.KeyAnswer.the-variants.{Key, Refused}
 
-abbrev pub keyOf : (unit valve hour : ℕ) → ℕ
-keyOf unit valve hour = unit * 2 ^ 48 + valve * 2 ^ 40 + hour
+abbrev pub secondsPerHour : ℕ
+secondsPerHour = 3600
 
-abbrev pub lastHour : ℕ
-lastHour = 2 ^ 39 - 1
+abbrev pub hourOf : (seconds : ℤ) → ℤ
+hourOf seconds = floorDiv seconds secondsPerHour
 
-unfoldable pub keyAtHour : (unit valve hour : ℕ) → Answer ℕ
-keyAtHour unit valve hour = refuseIf (ltb lastHour hour) 12 then gives (keyOf unit valve hour)
+abbrev pub firstHour : ℤ
+firstHour = negℤ (pos (2 ^ 39))
 
--- `negsuc n` is the whole number -(n + 1)
+abbrev pub lastHour : ℤ
+lastHour = pos (2 ^ 39 - 1)
+
+-- the key has 40 bits for the hour
+abbrev pub hoursHeld : ℕ
+hoursHeld = 2 ^ 40
+
+abbrev pub keyOf : (unit valve held : ℕ) → ℕ
+keyOf unit valve held = unit * 2 ^ 48 + valve * 2 ^ 40 + held
+
+unfoldable pub keyAtHour : (unit valve : ℕ) (hour : ℤ) → Answer ℕ
+keyAtHour unit valve hour =
+    refuseIf (ltZ hour firstHour) 12
+    then refuseIf (ltZ lastHour hour) 12
+    then gives (keyOf unit valve (modulo hour hoursHeld))
+
 unfoldable pub flushKeyOf : (unit valve : ℕ) (seconds : ℤ) → Answer ℕ
-flushKeyOf unit valve (negsuc n) = refuses 12
-flushKeyOf unit valve (pos seconds) = keyAtHour unit valve (seconds / 3600)
+flushKeyOf unit valve seconds = keyAtHour unit valve (hourOf seconds)
 
 -- the paper's number and value for each case of the enum
 abbrev pub paper : KeyAnswer → Answer ℕ
