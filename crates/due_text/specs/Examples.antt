@@ -1,6 +1,6 @@
 -- Some texts and what they say, as the definitions compute it. Bytes are numbers: newline 10, space 32, `#` 35, `-` 45, `0` 48.
 -- Assumes nothing.
-use Prim.Native.Nat.{ℕ, _+_, _^_}
+use Prim.Native.Nat.{ℕ, _+_, _-_, _^_}
 use mathlib.Core.Path.{_≡_, refl}
 use mathlib.Core.List.{List, [], _∷_}
 use Rattle.answers.specs.declared.Refusal.the-variants.{RepeatedKeys}
@@ -19,6 +19,11 @@ use Rattle.due_text.specs.declared.keys.KeysAnswer.the-variants.{Read, B
 flush-line : lineOf (49 ∷ 32 ∷ 50 ∷ 32 ∷ 55 ∷ 49 ∷ 57 ∷ 57 ∷ 35 ∷ 120 ∷ []) ≡ line.Key (2 ^ 48 + 2 ^ 41 + 1)
 unfolding lineOf beforeComment cut dueOf dueAtUnit clockOf numberOf allDigits valueFrom fitting flushKeyOf keyAtHour
 flush-line = refl
+
+-- `0 0 -1`: the last second before zero
+second-before-zero : lineOf (48 ∷ 32 ∷ 48 ∷ 32 ∷ 45 ∷ 49 ∷ []) ≡ line.Key (2 ^ 40 - 1)
+unfolding lineOf beforeComment cut dueOf dueAtUnit clockOf numberOf allDigits valueFrom fitting flushKeyOf keyAtHour
+second-before-zero = refl
 
 -- `1 2`, and `-7`
 two-words : lineOf (49 ∷ 32 ∷ 50 ∷ []) ≡ line.Bad WordCount
