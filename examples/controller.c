@@ -1,7 +1,8 @@
 /*
  * What a valve controller does with a list of due flushes: it holds the list in static memory, and each hour asks it for each of
- * its valves. Its clock wakes at zero after a power loss, and local time is ten hours behind the clock. The list has 8-bit
- * fingerprints; the north island, which pays for water by the litre, gets 16-bit ones.
+ * its valves. Its clock wakes at zero after a power loss, and local time is ten hours behind the clock. So the night after one begins
+ * at local hour -10, and the list has flushes for it. The list has 8-bit fingerprints; the north island, which pays for water by
+ * the litre, gets 16-bit ones.
  *
  * usage: controller              builds a small list of its own, and the north island's
  *        controller LIST         reads a packed list: the 20 descriptor bytes and then the fingerprints
@@ -15,7 +16,7 @@
 #include <string.h>
 
 enum { UNIT = 7, VALVES = 4, HOURS = 15, OWN_FLUSHES = 7 };
-enum { SECONDS_OF_HOUR = 3600, LOCAL_TIME = -10 * SECONDS_OF_HOUR, HOURS_OF_YEAR = 365 * 24 };
+enum { SECONDS_OF_HOUR = 3600, LOCAL_HOURS = -10, TWENTY_PAST = 20 * 60, HOURS_OF_YEAR = 365 * 24 };
 
 /* The list as it comes from a file; one byte more, to see that a file is too long. */
 static uint8_t list[GP_DESCRIPTOR_BYTES + GP_MAX_SLOTS + 1];
@@ -34,7 +35,7 @@ static int build_own_list(void) {
     static const struct {
         uint8_t valve;
         int hour;
-    } flushes[OWN_FLUSHES] = {{0, 0}, {2, 0}, {1, 1}, {0, 2}, {3, 2}, {1, 4}, {2, 4}};
+    } flushes[OWN_FLUSHES] = {{1, -10}, {3, -10}, {0, -7}, {2, -1}, {0, 0}, {1, 1}, {3, 2}};
     uint8_t *fingerprints = list + GP_DESCRIPTOR_BYTES;
     uint32_t answer;
     size_t i;
@@ -108,14 +109,17 @@ static void sound_alarm(uint32_t answer, int any_due) {
     printf("%s ALARM, nothing is known: refused with %u\n", any_due ? ";" : "", (unsigned)(answer - GP_REFUSED));
 }
 
-static void watch_hour(int hour) {
-    int64_t seconds = (int64_t)hour * SECONDS_OF_HOUR;
+/* The clock has shown `hours` whole hours, and twenty minutes. The flushes of the own list are named by the first second of their hour;
+ * any other second of it gives the same key, below zero too. */
+static void watch_hour(int hours) {
+    int64_t clock = (int64_t)hours * SECONDS_OF_HOUR + TWENTY_PAST;
+    int64_t local = clock + (int64_t)LOCAL_HOURS * SECONDS_OF_HOUR;
     int any_due = 0;
     unsigned valve;
-    printf("local hour %3d:", hour);
+    printf("local hour %3d:", hours + LOCAL_HOURS);
     for (valve = 0; valve < VALVES; valve++) {
         uint64_t key;
-        uint32_t answer = gp_flush_key(UNIT, (uint8_t)valve, seconds, &key);
+        uint32_t answer = gp_flush_key(UNIT, (uint8_t)valve, local, &key);
         if (answer == 0) {
             answer = ask(key);
         }
@@ -184,7 +188,7 @@ int main(int count, char **words) {
         status = accept_list();
     }
     for (hour = 0; hour < HOURS && status == 0; hour++) {
-        watch_hour(hour + LOCAL_TIME / SECONDS_OF_HOUR);
+        watch_hour(hour);
     }
     if (status == 0 && count == 1) {
         status = serve_north_island();

@@ -78,7 +78,7 @@ extern "C" {
 #define GP_BAD_MASK 9               /* mask is not segment length - 1 */
 #define GP_BAD_COUNT_LENGTH 10      /* count length is 0, no multiple of the segment length, or the slots are over 2^31 - 1 */
 #define GP_WRONG_FINGERPRINTS 11    /* the fingerprints given are not exactly as many as the descriptor says */
-#define GP_BAD_CLOCK 12             /* clock below zero, or flush hour above 2^39 - 1 */
+#define GP_BAD_CLOCK 12             /* flush hour outside -2^39 .. 2^39 - 1 */
 
 #define GP_NO 0
 #define GP_YES 1
@@ -130,9 +130,13 @@ uint32_t gp_fuse16_build(const uint64_t *keys, size_t keys_length, uint32_t limi
                          size_t descriptor_length);
 
 /*
- * The key of one flush: unit * 2^48 + valve * 2^40 + hour, where the hour is seconds / 3,600 with the remainder dropped.
- * Different units, valves and hours give different keys. Answers 0 and writes the key, or GP_REFUSED + 12 and leaves *key alone.
- * The pointer is not null.
+ * The key of one flush: unit * 2^48 + valve * 2^40 + (hour modulo 2^40). The hour is the floor of seconds / 3,600, below zero too:
+ * seconds -1 and -3,600 are hour -1, second -3,601 is hour -2. Hours -2^39 .. 2^39 - 1 are good, so no clock within 60 million
+ * years of zero is refused. Answers 0 and writes the key; for any other hour GP_REFUSED + 12, and *key is left alone. Different
+ * units, valves and hours give different keys. The pointer is not null.
+ *
+ * Any second of an hour gives the hour's key, so give it the seconds as they are: in C, seconds / 3600 rounds towards zero, and
+ * below zero that is the hour only at its first second.
  */
 uint32_t gp_flush_key(uint16_t unit, uint8_t valve, int64_t seconds, uint64_t *key);
 

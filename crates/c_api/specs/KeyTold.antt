@@ -1,5 +1,5 @@
--- Ours, not document 01's, which exports only the query: the flush key (document 01, "Flush key" and answer 12) offered to C as well. What
--- the C program is told, and what its key then holds. Assumes nothing.
+-- Ours, not document 01's, which exports only the query: the flush key ("Flush key" and answer 12, as document 02's wish 3
+-- corrects them) offered to C as well. What the C program is told, and what its key then holds. Assumes nothing.
 use Prim.Native.Nat.{ℕ}
 use Rattle.answers.specs.Answers.{codeOf, Answer, refuses, gives}
 

@@ -3,3 +3,4 @@ pub mod BuildTold
 pub mod Telling
 pub mod OneAnswer
 pub mod Reliable
+pub mod DueFlush
