@@ -64,7 +64,7 @@ fn reason(why: Refusal) {
         Refusal::ShortScratch => printing::error(b"a scratch buffer is too short"),
         Refusal::RepeatedKeys => printing::error(b"two keys are equal"),
         Refusal::Stuck => printing::error(b"every allowed attempt has a stuck set"),
-        Refusal::Clock => printing::error(b"clock below zero, or hour above 2^39 - 1"),
+        Refusal::Clock => printing::error(b"hour outside -2^39..2^39 - 1"),
         _ => of_list(why),
     }
 }

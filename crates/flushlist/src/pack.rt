@@ -98,7 +98,7 @@ fn save(d: Descriptor, fingerprints: &[u8], list: &[u8]) -> bool {
     }
 }
 
-// As `due.list: keys 12, fingerprints 48, attempt 1`.
+// As `due.list: keys 13, fingerprints 48, attempt 1`.
 fn tell(list: &[u8], keys: usize, slots: usize, attempt: u32) {
     printing::text(list);
     printing::text(b": keys ");

@@ -10,13 +10,15 @@ pub fn run() {
         messages::usage();
         return;
     }
-    // Listed: by the second on the line, by another of its hour, and by its key.
+    // Listed: by the second on the line, by another of its hour, by its key, and by the last second of an hour below zero.
     asked(b"1 1 1773032400");
     asked(b"3 2 1773291600");
     asked(b"283673999966209");
-    // Not listed: the next hour, another valve, and an hour that a clock at zero names.
+    asked(b"1 1 -32401");
+    // Not listed: the next hour, another valve, the hour after the one below zero, and hour 0.
     asked(b"1 1 1773036000");
     asked(b"1 3 1773032400");
+    asked(b"1 1 -32400");
     asked(b"1 1 0");
 }
 
