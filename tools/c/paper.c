@@ -197,9 +197,14 @@ uint32_t paper_contains(size_t width, const uint8_t *descriptor, size_t descript
 /* ---- flush key ---- */
 
 uint32_t paper_flush_key(uint16_t unit, uint8_t valve, int64_t seconds, uint64_t *key) {
-    if (seconds < 0 || seconds / 3600 > (INT64_C(1) << 39) - 1) {
+    int64_t first = -(INT64_C(1) << 39), last = (INT64_C(1) << 39) - 1;
+    int64_t hour = seconds / 3600;
+    if (hour * 3600 > seconds) { /* rounded towards zero, up: the floor is one less */
+        hour--;
+    }
+    if (hour < first || hour > last) {
         return GP_REFUSED + 12;
     }
-    *key = ((uint64_t)unit << 48) + ((uint64_t)valve << 40) + (uint64_t)(seconds / 3600);
+    *key = ((uint64_t)unit << 48) + ((uint64_t)valve << 40) + ((uint64_t)hour & ((UINT64_C(1) << 40) - 1));
     return 0;
 }

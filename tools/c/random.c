@@ -52,14 +52,30 @@ static void test_header_lengths(void) {
     }
 }
 
+/* A third of any size, a third within a second of a whole hour, a third within an hour and a second of those where the answer changes
+ * its form. */
+static int64_t any_seconds(void) {
+    static const int64_t hours[] = {-(INT64_C(1) << 39), -1, 0, INT64_C(1) << 39};
+    int shift = (int)below(63);
+    int64_t seconds = (int64_t)any() / ((int64_t)1 << shift);
+    int64_t hour = hours[below(4)];
+    switch (below(3)) {
+    case 0:
+        return seconds;
+    case 1:
+        return seconds / 3600 * 3600 + (int64_t)below(3) - 1;
+    default:
+        return hour * 3600 + (int64_t)below(2 * 3601 + 1) - 3601;
+    }
+}
+
 static void test_flush_keys(unsigned long rounds) {
     while (rounds-- > 0) {
         uint64_t ours[3] = {any(), any(), any()}; /* the key's place between two words that no call may change */
         uint64_t due[3] = {ours[0], ours[1], ours[2]};
         uint16_t unit = (uint16_t)any();
         uint8_t valve = (uint8_t)any();
-        int shift = (int)below(63);
-        int64_t seconds = (int64_t)any() / ((int64_t)1 << shift);
+        int64_t seconds = any_seconds();
         uint32_t due_answer = paper_flush_key(unit, valve, seconds, &due[1]);
         uint32_t answer = gp_flush_key(unit, valve, seconds, &ours[1]);
         calls++;
@@ -105,7 +121,7 @@ int main(int count, char **words) {
         count_refusals(GP_TOO_MANY_KEYS, GP_WRONG_FINGERPRINTS);
     }
     test_flush_keys(1000000 * scale);
-    printf("flush keys: as document 01 says, %llu calls in all, seed %" PRIu64 ", scale %lu\n", calls, seed, scale);
+    printf("flush keys: as documents 01 and 02 say, %llu calls in all, seed %" PRIu64 ", scale %lu\n", calls, seed, scale);
     count_refusals(GP_BAD_CLOCK, GP_BAD_CLOCK);
     return 0;
 }

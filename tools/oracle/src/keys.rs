@@ -1,6 +1,7 @@
 //! Lists of keys to build from.
 
-use crate::paper::hash::{key_of_hash, mix, seed, slots};
+use crate::paper::flush;
+use crate::paper::hash::{key_of_hash, mix, mix64, seed, slots};
 use crate::paper::layout::{of_attempt, Layout};
 use crate::random::Random;
 
@@ -39,15 +40,21 @@ impl Family {
     }
 }
 
-/// Some units with some valves each, every valve due in every hour from some hour on.
+/// Some units with some valves each, every valve due in every hour from some hour on, below zero or after it.
 fn flush_keys(size: usize, choice: u64) -> Vec<u64> {
     let (units, valves) = (1 + choice % 7, 1 + (choice >> 8) % 40);
-    let (first_unit, first_hour) = ((choice >> 16) % 60_000, (choice >> 32) % 500_000);
+    let (first_unit, first_hour) = ((choice >> 16) % 60_000, (choice >> 32) as i64 % 500_000 - 250_000);
     let key = |place: u64| {
         let (unit, valve) = (first_unit + place / valves % units, place % valves);
-        (unit << 48) + (valve << 40) + first_hour + place / (valves * units)
+        let hour = first_hour + (place / (valves * units)) as i64;
+        flush::key(unit as u16, valve as u8, hour * flush::SECONDS_OF_HOUR).expect("a good hour")
     };
     (0..size as u64).map(key).collect()
+}
+
+/// The list that a program of the gate makes by itself for each size.
+pub fn of_size(size: usize) -> Vec<u64> {
+    (0..size as u64).map(|place| mix64(((size as u64) << 32) + place + 1)).collect()
 }
 
 /// A chain of keys from `first`, `links` longer than one, of which each two neighbours share their slots in one attempt, from

@@ -1,9 +1,9 @@
 //! Writes the Rust's answers for lists that a program can make again by itself, to be replayed where there is no Rust.
 //! The first lines say what stands in the others.
 
-use oracle::keys::{chain, hash_zero_key, SMALL_STUCK_LISTS};
+use oracle::digest::digest;
+use oracle::keys::{chain, hash_zero_key, of_size, SMALL_STUCK_LISTS};
 use oracle::paper::attempt::Built;
-use oracle::paper::hash::{mix64, Fingerprint};
 use oracle::paper::layout::{MAX_ATTEMPTS, MAX_KEYS};
 use oracle::paper::query::read;
 use oracle::rust::{self, Filtered};
@@ -16,10 +16,6 @@ const HEAD: &str = "\
 # After 0 n the keys are mix64(n * 2^32 + i + 1) for i = 0 .. n-1. Four zeros: no attempt from 1 to 1000 is free.
 # The digest is that of the fingerprints' bytes, the low byte of each first. It begins as 14695981039346656037;
 # each byte is xored into it, then it is multiplied by 1099511628211 modulo 2^64.";
-
-fn keys_of_size(size: usize) -> Vec<u64> {
-    (0..size as u64).map(|place| mix64(((size as u64) << 32) + place + 1)).collect()
-}
 
 /// The lists whose keys stand in the file: small ones that stick at first, keys whose hash is 0, chains up to the last attempt.
 fn special_lists() -> Vec<Vec<u64>> {
@@ -34,11 +30,6 @@ fn special_lists() -> Vec<Vec<u64>> {
     lists.extend((1..=8).map(|links| chain(0, links)));
     lists.extend([MAX_ATTEMPTS - 1, MAX_ATTEMPTS].map(|links| chain(0, links)));
     lists
-}
-
-fn digest<F: Fingerprint>(fingerprints: &[F]) -> u64 {
-    let bytes = fingerprints.iter().flat_map(|fingerprint| fingerprint.bytes());
-    bytes.fold(0xcbf2_9ce4_8422_2325, |digest, byte| (digest ^ u64::from(byte)).wrapping_mul(0x100_0000_01b3))
 }
 
 /// What the Rust answers at one width.
@@ -57,7 +48,7 @@ fn answers(keys: &[u64]) -> String {
 fn write_list(out: &mut impl Write) -> io::Result<()> {
     writeln!(out, "{HEAD}")?;
     for size in 0..=MAX_KEYS {
-        writeln!(out, "0 {size} {}", answers(&keys_of_size(size)))?;
+        writeln!(out, "0 {size} {}", answers(&of_size(size)))?;
     }
     for keys in special_lists() {
         let listed: String = keys.iter().map(|key| format!("{key} ")).collect();

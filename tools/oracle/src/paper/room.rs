@@ -1,6 +1,6 @@
 //! "Answers": refusals 1 to 6, what each leaves in lent memory, and the numbers of the C entry of the build.
 
-use super::attempt::{search, Built, Picks};
+use super::attempt::{attempt, search, Built, Picks};
 use super::hash::Fingerprint;
 use super::layout::{bucket_starts, plain, MAX_ATTEMPTS, MAX_KEYS};
 
@@ -145,9 +145,20 @@ fn repeated(keys: &[u64]) -> bool {
 
 /// The outcome of a build for every input, at every width.
 pub fn outcome(keys: &[u64], limit: u32, lengths: [usize; BUFFERS]) -> Result<Picks, u32> {
-    match refused_at_once(keys.len(), limit, lengths) {
-        Some(number) => Err(number),
+    checked(keys, limit, lengths)?;
+    search(keys, limit).ok_or(6)
+}
+
+/// The same of one attempt by its number.
+pub fn outcome_of_attempt(keys: &[u64], number: u32, lengths: [usize; BUFFERS]) -> Result<Picks, u32> {
+    checked(keys, number, lengths)?;
+    attempt(keys, number).ok_or(6)
+}
+
+fn checked(keys: &[u64], number: u32, lengths: [usize; BUFFERS]) -> Result<(), u32> {
+    match refused_at_once(keys.len(), number, lengths) {
+        Some(refusal) => Err(refusal),
         None if repeated(keys) => Err(5),
-        None => search(keys, limit).ok_or(6),
+        None => Ok(()),
     }
 }

@@ -1,8 +1,8 @@
-//! Flush keys against document 01's formula: borders and random triples.
+//! Flush keys against the documents' formula: borders and random triples.
 
 use crate::tally::Tally;
 use crate::{ours, Asked};
-use oracle::paper::flush::{key, MAX_HOUR, SECONDS_OF_HOUR};
+use oracle::paper::flush::{key, FIRST_HOUR, LAST_HOUR, SECONDS_OF_HOUR};
 use oracle::paper::query::REFUSED;
 use oracle::random::Random;
 
@@ -11,9 +11,9 @@ const UNTOUCHED: u64 = 0x5a5a_5a5a_5a5a_5a5a;
 
 pub fn compare(asked: &Asked, tally: &mut Tally) -> Result<(), String> {
     let mut random = Random::new(asked.seed, "flush");
-    let after_last = (MAX_HOUR + 1) * SECONDS_OF_HOUR;
-    let borders = [0, SECONDS_OF_HOUR, -SECONDS_OF_HOUR, 2 * SECONDS_OF_HOUR, after_last, i64::MAX, i64::MIN];
-    for border in borders {
+    let hours = [-2, -1, 0, 1, 2, FIRST_HOUR, FIRST_HOUR + 1, LAST_HOUR, LAST_HOUR + 1];
+    let borders = hours.map(|hour| hour * SECONDS_OF_HOUR);
+    for border in borders.into_iter().chain([i64::MAX, i64::MIN]) {
         for seconds in [border.wrapping_sub(1), border, border.wrapping_add(1)] {
             for (unit, valve) in [(0, 0), (1, 2), (u16::MAX, u8::MAX)] {
                 hold(tally, unit, valve, seconds)?;
@@ -25,7 +25,7 @@ pub fn compare(asked: &Asked, tally: &mut Tally) -> Result<(), String> {
         let seconds = random.word() as i64 >> random.below(64);
         hold(tally, (triple >> 8) as u16, triple as u8, seconds)?;
     }
-    println!("  borders and random triples: as document 01 says");
+    println!("  borders and random triples: as documents 01 and 02 say");
     Ok(())
 }
 
