@@ -6,7 +6,7 @@ use Rattle.answers.specs.declared.Refusal.the-variants.{TooManyKeys, Att
 use Rattle.answers.specs.declared.Refusal.the-variants.{ShortDescriptor, SegmentLength, Mask, CountLength, FingerprintLength, Clock}
 
 abbrev pub numberOf : Refusal → ℕ
-numberOf TooManyKeys = 1  -- more than 4,096 keys
+numberOf TooManyKeys = 1  -- more than `maxKeys` keys (capacity `Capacity`)
 numberOf AttemptOutOfRange = 2  -- attempt limit or number outside 1..1,000
 numberOf ShortFingerprints = 3  -- room for fingerprints below A
 numberOf ShortScratch = 4  -- any scratch buffer too short

@@ -17,7 +17,7 @@ use Rattle.capacity.proofs.Rounding.{Rounded, Between, rounded, between
 
 -- ---- the rule, by the two sides of n^(4^rounds)
 
--- so many that no size above 100 is left open, up to 8,192 keys
+-- so many that no size above 100 is left open, up to `maxKeys`
 abbrev rounds : ℕ
 rounds = 15
 

@@ -1,4 +1,4 @@
--- Document 01, "Layout in whole numbers": the capacity of n keys, and the limit on keys that its table is made for.
+-- Document 01, "Layout in whole numbers": the capacity of n keys; and document 02, wish 4: the limit on keys.
 -- Assumes nothing.
 use mathlib.Core.Path.{_≡_}
 use Prim.Native.Nat.{ℕ, zero, suc, _+_, _-_, _*_, _^_, _≤_}
@@ -7,10 +7,10 @@ use lib.Dec.{T, leb, ltb}
 
 -- the most keys, and the capacity there, which no smaller size exceeds
 abbrev pub maxKeys : ℕ
-maxKeys = 4096
+maxKeys = 8192
 
 abbrev pub maxCapacity : ℕ
-maxCapacity = 5285
+maxCapacity = 10308
 
 -- The exponents of the rule, 8c - 7n - 4 and 8c - 7n + 4. One below zero counts as 0, which changes no answer: a power of n below zero is,
 -- as n^0, at most 1, and so at most 10^(12n).

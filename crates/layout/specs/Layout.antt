@@ -8,7 +8,11 @@ use Rattle.layout.specs.declared.Layout.{Layout}
 
 -- the most slots (A) that a layout has: those at `maxKeys`
 abbrev pub maxSlots : ℕ
-maxSlots = 5632
+maxSlots = 10752
+
+-- ours: no list asks for more bucket starts (P), as Lengths.antt shows
+abbrev pub maxStarts : ℕ
+maxStarts = 64
 
 -- ---- the segment length L
 

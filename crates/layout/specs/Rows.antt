@@ -1,4 +1,4 @@
--- Document 01, "Layout in whole numbers": the rows of its table, as one statement. Assumes nothing.
+-- Document 01, "Layout in whole numbers": the rows of its table, and the row of document 02, wish 4, as one statement. Assumes nothing.
 use mathlib.Core.Path.{_≡_, refl, sym, ap, ap₂}
 use mathlib.Core.Bool.{cond}
 use Prim.Native.Nat.{ℕ, _^_}
@@ -28,6 +28,7 @@ pub record Rows : Type 0 where
   pub at-100 : Row 100 163 (laid 64 1 64 192) (laid 32 4 128 192)
   pub at-1000 : Row 1000 1375 (laid 128 9 1152 1408) (laid 64 20 1280 1408)
   pub at-4096 : Row 4096 5285 (laid 512 9 4608 5632) (laid 256 20 5120 5632)
+  pub at-8192 : Row 8192 10308 (laid 512 19 9728 10752) (laid 256 40 10240 10752)
 
 -- ---- a row follows from its capacity and its exponent
 
@@ -36,7 +37,7 @@ module _ (n c e : ℕ) (q : c ≡ capacityOf n) (r : exponentOf n ≡ e) where
   unfolding plainOf
   plain-is = ap₂ (λ (x y : ℕ). layoutWith (2 ^ x) (countOf y (2 ^ x))) r (sym q)
 
-  row : let p = layoutWith (2 ^ e) (countOf c (2 ^ e)) in Row n c (cond (halves n 1) (halvedOf p) p) (cond (halves n 2) (halvedOf p) p)
+  pub row : let p = layoutWith (2 ^ e) (countOf c (2 ^ e)) in Row n c (cond (halves n 1) (halvedOf p) p) (cond (halves n 2) (halvedOf p) p)
   unfolding layoutOf
   row = record {
     capacity = sym q;
@@ -55,4 +56,5 @@ rows = record {
   at-100 = row 100 163 6 (capacity-is {n = 100} {c = 163} (lit≤ tt) tt) refl;
   at-1000 = row 1000 1375 7 (capacity-is {n = 1000} {c = 1375} (lit≤ tt) tt) refl;
   at-4096 = row 4096 5285 9 (capacity-is {n = 4096} {c = 5285} (lit≤ tt) tt) refl;
+  at-8192 = row 8192 10308 9 (capacity-is {n = 8192} {c = 10308} (lit≤ tt) tt) refl;
 }

@@ -1,5 +1,5 @@
 -- The packed counts are exact: where the buffers hold the sums of some hashes, each slot's count is the number of keys that touch it. That is
--- at most the number of keys, and 16 bits hold it with the positions up to `maxTouches`: neither 64 touches wrap, nor 4,096. Assumes nothing.
+-- at most the number of keys, and 16 bits hold it with the positions up to `maxTouches`: neither 64 touches wrap, nor as many as keys are allowed. Assumes nothing.
 use mathlib.Core.Path.{_≡_, sym, ap, _∙_}
 use mathlib.Core.List.{List, map}
 use Prim.Native.Nat.{ℕ, _+_, _*_, _/_, _^_, _≤_, _<_}
