@@ -2,13 +2,31 @@
 ghost use mathlib.Core.Path.{_≡_};
 ghost use Prim.Native.Nat.{_+_, _*_, _≤_};
 ghost use Rattle.capacity.specs.Capacity.{maxKeys, maxCapacity};
-ghost use Rattle.layout.specs.Layout.{segmentLengthOf, countOf, layoutWith, maxSlots, plainOf, layoutOf, powerAbove, bucketStartsOf};
+ghost use Rattle.layout.specs.Layout.{segmentLengthOf, countOf, layoutWith, maxSlots, maxStarts, plainOf, layoutOf, powerAbove, bucketStartsOf};
+
+pub mod limits;
+
+use limits::MAX_SLOTS;
+use limits::MAX_STARTS;
 
 pub struct Layout {
     pub segment_length: u32,
     pub segment_count: u32,
     pub segment_count_length: u32,
     pub array_length: u32,
+}
+
+// `MAX_SLOTS` and `MAX_STARTS` are the numbers that the definitions name.
+pub fn max_slots() -> usize
+    ensures { λ r. ⌜ r ≡ maxSlots ⌝ }
+{
+    MAX_SLOTS
+}
+
+pub fn max_starts() -> usize
+    ensures { λ r. ⌜ r ≡ maxStarts ⌝ }
+{
+    MAX_STARTS
 }
 
 // L, by the sizes at which it doubles.
@@ -100,16 +118,11 @@ fn power_above(k: u32) -> u32
     p
 }
 
-// P: how many bucket starts are asked for, for n keys.
+// P: how many bucket starts are asked for, for n keys. No layout has more segments than that of attempt 2.
 pub fn bucket_starts(n: u32) -> u32
     requires { ⌜ n ≤ maxKeys ⌝ }
     ensures { λ r. ⌜ r ≡ bucketStartsOf n ⌝ }
 {
-    let first = layout_at(n, 1);
-    let second = layout_at(n, 2);
-    if first.segment_count < second.segment_count {
-        power_above(second.segment_count)
-    } else {
-        power_above(first.segment_count)
-    }
+    let layout = layout_at(n, 2);
+    power_above(layout.segment_count)
 }
