@@ -4,3 +4,4 @@ pub mod Telling
 pub mod OneAnswer
 pub mod Reliable
 pub mod DueFlush
+pub mod HeaderRoom

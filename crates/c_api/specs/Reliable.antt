@@ -28,14 +28,14 @@ pub record Reliable (w : ℕ) (keys : List ℕ) (limit : ℕ) (t : BuildTold) : 
   pub all-stuck : t .code ≡ refusalCode 6 → AllStuck (slotsAt keys) 1 limit
 
 module _ (w : ℕ) (keys : List ℕ) (limit : ℕ) (before : Memory) (room : List ℕ) where
-  abbrev built : Outcome Success Memory
+  abbrev pub built : Outcome Success Memory
   built = buildOf w keys limit before
 
   -- so many attempts
   searched : built ≡ searchOf w keys limit 1 (limit + 1 - 1) before
   searched = ap (λ (count : ℕ). searchOf w keys limit 1 count before) (omega arith)
 
-  demanded : Demand3 w keys 1 limit before (built .answer) (built .leaves .fingerprints)
+  pub demanded : Demand3 w keys 1 limit before (built .answer) (built .leaves .fingerprints)
   demanded = demand-met w keys 1 limit before (λ some. (omega arith, some)) built searched
 
   -- a success has a limit in range, so its number is like no refusal's

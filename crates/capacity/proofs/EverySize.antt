@@ -14,7 +14,7 @@ all-right : T (every right 0 entries)
 unfolding entries right ruled rounded obeys
 all-right = tt
 
-within : {n : ℕ} → n ≤ maxKeys → n < length entries
+pub within : {n : ℕ} → n ≤ maxKeys → n < length entries
 unfolding entries
 within {n} h = omega arith
 

@@ -2,3 +2,4 @@ pub mod Rounding
 pub mod EntryTest
 pub mod Entries
 pub mod EverySize
+pub mod Rising

@@ -8,6 +8,7 @@ pub mod Demand
 pub mod FreeAttempts
 pub mod FirstFree
 pub mod Checked
+pub mod EnoughRoom
 pub mod Demanded
 pub mod QueryMeans
 pub mod AcceptedSlots

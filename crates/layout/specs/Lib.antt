@@ -4,3 +4,5 @@ pub mod Ranges
 pub mod Fits
 pub mod BucketStarts
 pub mod Rows
+pub mod Growth
+pub mod Lengths
