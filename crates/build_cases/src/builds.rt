@@ -1,19 +1,25 @@
 // The build: answers 1 to 6 at their borders, the keys that are easily lost, and what every answer leaves of the lent memory.
+use capacity::MAX_KEYS;
+use layout::limits::MAX_SLOTS;
+use layout::limits::MAX_STARTS;
 use marked::buffers;
 use marked::buffers::Lent;
 use marked::buffers::longer;
 use marked::call;
 
+// What the most keys need is the most that any list needs, of bucket starts too. (Of these a limit of 4,096 keys needed half.)
+const MOST: usize = MAX_KEYS as usize;
+
 fn most_keys() {
-    let mut keys = [0u64; 4096];
+    let mut keys = [0u64; MOST];
     samples::of_size(&mut keys);
-    call::build(&keys, 1000, longer(5632, 4096, 32));
+    call::build(&keys, 1000, longer(MAX_SLOTS, MOST, MAX_STARTS));
 }
 
 fn too_many_keys() {
-    let mut keys = [0u64; 4097];
+    let mut keys = [0u64; MOST + 1];
     samples::of_size(&mut keys);
-    let lent = longer(5632, 4097, 32);
+    let lent = longer(MAX_SLOTS, MOST + 1, MAX_STARTS);
     call::build(&keys, 1000, lent);
     call::build(&keys, 0, lent);
 }

@@ -1,9 +1,9 @@
 // A list is asked whether a flush is due.
 use crate::messages;
-use crate::pack::MAX_SLOTS;
 use contains8::ContainsAnswer;
 use descriptor::DESCRIPTOR_SIZE;
 use due_text::line::Line;
+use layout::limits::MAX_SLOTS;
 
 // One byte more than the longest list.
 const LIST_ROOM: usize = DESCRIPTOR_SIZE + MAX_SLOTS + 1;

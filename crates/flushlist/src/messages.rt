@@ -1,5 +1,6 @@
 // What went wrong, in words, on standard error.
 use answers::Refusal;
+use capacity::MAX_KEYS;
 use due_text::line::Fault;
 
 pub fn usage() {
@@ -36,7 +37,10 @@ pub fn fault(why: Fault) {
         Fault::ClockBeyond => printing::error(b"seconds beyond 63 bits\n"),
         Fault::KeyAbove => printing::error(b"key above 18446744073709551615\n"),
         Fault::Refused(why) => refused(why),
-        Fault::TooManyKeys => printing::error(b"more than 4096 keys\n"),
+        Fault::TooManyKeys => {
+            too_many_keys();
+            printing::error(b"\n");
+        }
     }
 }
 
@@ -56,9 +60,15 @@ pub fn refused(why: Refusal) {
     printing::error(b"\n");
 }
 
+fn too_many_keys() {
+    printing::error(b"more than ");
+    printing::error_number(MAX_KEYS as u64);
+    printing::error(b" keys");
+}
+
 fn reason(why: Refusal) {
     match why {
-        Refusal::TooManyKeys => printing::error(b"more than 4096 keys"),
+        Refusal::TooManyKeys => too_many_keys(),
         Refusal::AttemptOutOfRange => printing::error(b"attempt limit or number outside 1..1000"),
         Refusal::ShortFingerprints => printing::error(b"too little room for the fingerprints"),
         Refusal::ShortScratch => printing::error(b"a scratch buffer is too short"),

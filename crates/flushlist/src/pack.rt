@@ -1,31 +1,31 @@
 // From a text of due flushes to a list: the 20 bytes of the descriptor, and the fingerprints.
 ghost use mathlib.Core.Path.{_≡_};
+ghost use Prim.Native.Nat.{_*_};
 ghost use lib.ListN.{length};
+ghost use Rattle.capacity.specs.Capacity.{maxKeys};
 use crate::messages;
 use bfuse8::BuildAnswer;
+use capacity::MAX_KEYS;
 use descriptor::DESCRIPTOR_SIZE;
 use descriptor::Descriptor;
 use descriptor::WriteAnswer;
 use due_text::keys;
 use due_text::keys::KeysAnswer;
+use layout::limits::MAX_SLOTS;
+use layout::limits::MAX_STARTS;
 
-const MAX_KEYS: usize = 4096;
-
-// Enough for any list up to as many keys: fingerprints, places of the order, and bucket starts. The last are not longest at the limit: lists
-// of 3,347 to 3,361 keys need 64, those of 4,096 keys 32.
-pub const MAX_SLOTS: usize = 5632;
-
-const ORDER: usize = 4097;
-
-const STARTS: usize = 64;
+const MOST_KEYS: usize = MAX_KEYS as usize;
 
 const ATTEMPTS: u32 = 1000;
 
-// For a text that is shorter. Only the length is promised, so that nothing above computes with so many zeros.
-fn text_room() -> [u8; 262144]
-    ensures { λ r. ⌜ 262144 ≡ length r ⌝ }
+// Sixty-four bytes for each key. A text is shorter.
+const TEXT_ROOM: usize = 64 * MOST_KEYS;
+
+// Only the length is promised, so that nothing above computes with so many zeros.
+fn text_room() -> [u8; TEXT_ROOM]
+    ensures { λ r. ⌜ 64 * maxKeys ≡ length r ⌝ }
 {
-    [0; 262144]
+    [0; TEXT_ROOM]
 }
 
 // Whether the list was written; if not, it is said why.
@@ -40,7 +40,7 @@ pub fn run(text: &[u8], list: &[u8]) -> bool {
 }
 
 fn pack_text(text: &[u8], list: &[u8]) -> bool {
-    let mut room = [0u64; MAX_KEYS];
+    let mut room = [0u64; MOST_KEYS];
     let answer = keys::read(text, &mut room);
     match answer {
         KeysAnswer::Read(count) => pack_keys(&room[..count], list),
@@ -56,9 +56,9 @@ fn pack_keys(keys: &[u64], list: &[u8]) -> bool {
     let mut lone = [0u32; MAX_SLOTS];
     let mut counts = [0u16; MAX_SLOTS];
     let mut sums = [0u64; MAX_SLOTS];
-    let mut positions = [0u8; MAX_KEYS];
-    let mut order = [0u64; ORDER];
-    let mut starts = [0u32; STARTS];
+    let mut positions = [0u8; MOST_KEYS];
+    let mut order = [0u64; MOST_KEYS + 1];
+    let mut starts = [0u32; MAX_STARTS];
     let answer = bfuse8::build(
         keys,
         ATTEMPTS,

@@ -1,9 +1,11 @@
 // The seven buffers that a call is lent, each at the start of a longer array. Before it every element of each array is `MARK`.
-ghost use Prim.Native.Nat.{_≤_};
+ghost use Prim.Native.Nat.{_+_, _≤_};
+ghost use Rattle.layout.specs.Layout.{maxSlots};
+use layout::limits::MAX_SLOTS;
 
 pub const MARK: u8 = 170;
-// The length of each array: A of 4,096 keys, and some to spare. The contracts below cite it by its value.
-pub const LENGTH: usize = 5640;
+// The length of each array: the most slots, and some to spare.
+pub const LENGTH: usize = MAX_SLOTS + 8;
 
 // The buffers by number, in the order in which they are lent: fingerprints, lone list, counts, sums, positions, order, bucket starts.
 pub const FINGERPRINTS: u32 = 0;
@@ -61,7 +63,7 @@ pub fn least(a: usize, b: usize) -> usize
 
 // How many elements of a buffer are lent.
 pub fn end_of(buffer: u32, lent: Lent) -> usize
-    ensures { λ r. ⌜ r ≤ 5640 ⌝ }
+    ensures { λ r. ⌜ r ≤ maxSlots + 8 ⌝ }
 {
     let needed = needed_of(buffer, lent);
     if buffer == lent.short {

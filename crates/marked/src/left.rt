@@ -1,6 +1,7 @@
 // What a call leaves of the marked buffers: of the fingerprints, and of the scratch buffers together. Every array is read whole, so a write
 // past the lent part would be told too.
-ghost use Prim.Native.Nat.{_<_};
+ghost use Prim.Native.Nat.{_+_, _<_};
+ghost use Rattle.layout.specs.Layout.{maxSlots};
 use crate::buffers::LENGTH;
 use crate::buffers::Lent;
 use crate::buffers::MARK;
@@ -57,7 +58,7 @@ fn with_scratch(
     order: &[u64; LENGTH],
     starts: &[u32; LENGTH],
 ) -> Left
-    requires { ⌜ i < 5640 ⌝ }
+    requires { ⌜ i < maxSlots + 8 ⌝ }
 {
     let slot = i < lent.slots;
     let a = with(so_far, from_u32(lone[i]), slot);

@@ -1,26 +1,25 @@
 // One list built at each width, and its answers printed as the Rust's list has them.
 use answers::Refusal;
+use capacity::MAX_KEYS;
 use descriptor::Descriptor;
+use layout::limits::MAX_SLOTS;
+use layout::limits::MAX_STARTS;
 use plan::BuildAnswer;
 
 const LIMIT: u32 = 1000;
 
-pub const MOST_KEYS: usize = 4096;
-// A is the largest at 4,096 keys, P at some lists of fewer: 3,347 to 3,361.
-const MOST_SLOTS: usize = 5632;
-
-const MOST_STARTS: usize = 64;
+pub const MOST_KEYS: usize = MAX_KEYS as usize;
 
 // The second build is lent the scratch that the first leaves.
 pub fn print(keys: &[u64]) {
-    let mut bytes = [0u8; MOST_SLOTS];
-    let mut pairs = [0u16; MOST_SLOTS];
-    let mut lone = [0u32; MOST_SLOTS];
-    let mut counts = [0u16; MOST_SLOTS];
-    let mut sums = [0u64; MOST_SLOTS];
+    let mut bytes = [0u8; MAX_SLOTS];
+    let mut pairs = [0u16; MAX_SLOTS];
+    let mut lone = [0u32; MAX_SLOTS];
+    let mut counts = [0u16; MAX_SLOTS];
+    let mut sums = [0u64; MAX_SLOTS];
     let mut positions = [0u8; MOST_KEYS];
     let mut order = [0u64; MOST_KEYS + 1];
-    let mut starts = [0u32; MOST_STARTS];
+    let mut starts = [0u32; MAX_STARTS];
     let at_8_bits = bfuse8::build(
         keys,
         LIMIT,

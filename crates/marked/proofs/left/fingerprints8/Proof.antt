@@ -1,14 +1,15 @@
 -- `marked::left::fingerprints8` is safe and ends: it goes up through the elements. Assumes nothing.
-use Prim.Native.Nat.{_≤_, _-_}
+use Prim.Native.Nat.{_+_, _-_, _≤_}
 use borrow.Author.Needs.{needs}
+use Rattle.layout.specs.Layout.{maxSlots}
 use Rattle.marked.proofs.left.fingerprints8.Statement.{statement}
 use Rattle.marked.proofs.left.fingerprints8.Tie as tie
 
 abbrev Inv-loop : tie.InvT-loop
-Inv-loop slots fingerprints left₀ i₀ left i = i ≤ 5640
+Inv-loop slots fingerprints left₀ i₀ left i = i ≤ maxSlots + 8
 
 abbrev μ-loop : tie.MeasureT-loop
-μ-loop slots fingerprints left₀ i₀ left i = 5640 - i
+μ-loop slots fingerprints left₀ i₀ left i = maxSlots + 8 - i
 
 pub fingerprints8-spec : {M : Type 1} → statement M
 fingerprints8-spec =
