@@ -11,7 +11,7 @@
  * may accept the list, and then denies keys that are in it.
  *
  * Link with target/staticlib/libc_api.a, which `rt staticlib c_api` makes. Of the C library it needs memset alone, so no -lm.
- * Stack, as measured: a build takes 8.8 KB, most of it a copy of a table, the others less than 100 bytes.
+ * Stack, as measured: a build takes 17 KB, most of it a copy of a table, the others less than 100 bytes.
  *
  * Lent memory: each buffer is a pointer and its number of elements (not of bytes). The pointer is aligned for its element and may
  * be null where the number is 0. Buffers that are written overlap no other buffer of the same call.
@@ -28,7 +28,7 @@ extern "C" {
 
 /* ---- Limits ------------------------------------------------------------------------------------------------------------- */
 
-#define GP_MAX_KEYS 4096
+#define GP_MAX_KEYS 8192
 #define GP_MAX_ATTEMPTS 1000
 #define GP_DESCRIPTOR_BYTES 20
 
@@ -45,9 +45,10 @@ extern "C" {
  *   order                              n + 1
  *   starts                             GP_STARTS_UP_TO(n)
  *
- * A list of just n keys may need less: its slots are its count length plus twice its segment length (see GP_SLOTS_OF). The bucket
- * starts are checked and zeroed only. They are not longest at the limit: lists of 3,347 to 3,361 keys need 64, those of 4,096
- * keys 32.
+ * It is proved that they are enough: with these lengths, 20 bytes of room for the descriptor and a limit of 1 .. GP_MAX_ATTEMPTS,
+ * a build of up to n keys is refused with 5 or 6 only. A list of just n keys may need less: its slots are its count length plus
+ * twice its segment length (see GP_SLOTS_OF), and of the sizes above 1,009 only 3,347 to 3,361 and those from 6,877 on need 64
+ * bucket starts. The bucket starts are checked and zeroed only.
  */
 #define GP_SLOTS_UP_TO(n)                                                                                                       \
     ((n) <= 2      ? 12                                                                                                         \
@@ -57,7 +58,8 @@ extern "C" {
      : (n) <= 303  ? 448                                                                                                        \
      : (n) <= 1009 ? 1408                                                                                                       \
      : (n) <= 3361 ? 4608                                                                                                       \
-                   : 5632)
+     : (n) <= 4096 ? 5632                                                                                                       \
+                   : 10752)
 #define GP_STARTS_UP_TO(n) ((n) <= 4 ? 2 : (n) <= 8 ? 4 : (n) <= 91 ? 8 : (n) <= 303 ? 16 : (n) <= 1009 ? 32 : 64)
 
 /* ---- Answers ------------------------------------------------------------------------------------------------------------ */

@@ -116,7 +116,7 @@ static void test_random_list(void) {
     uint64_t *keys = lend_keys(n), base = any();
     uint32_t answer, limit = one_in(8) ? (uint32_t)below(1003) : one_in(64) ? UINT32_MAX : 1 + (uint32_t)below(3);
     for (size_t i = 0; i < n; i++) {
-        keys[i] = base % 3 == 0 ? base + i : base % 3 == 1 ? any() : any() % 4096;
+        keys[i] = base % 3 == 0 ? base + i : base % 3 == 1 ? any() : any() % GP_MAX_KEYS;
     }
     random_lengths(n, length);
     answer = hold_build(keys, n, limit, length, -1);

@@ -34,7 +34,14 @@ int one_in(size_t n) { return below(n) == 0; }
 
 enum border random_border(void) { return one_in(2) ? AFTER : BEFORE; }
 
-size_t any_scale(size_t most) { return below((most >> below(13)) + 1); }
+/* Every number of binary digits is as likely. */
+size_t any_scale(size_t most) {
+    size_t digits = 0;
+    while (most >> digits > 0) {
+        digits++;
+    }
+    return below((most >> below(digits + 1)) + 1);
+}
 
 /* The header's lengths serve every list up to n keys, and at the limit they are not longer than they must be. */
 static void test_header_lengths(void) {
@@ -117,7 +124,7 @@ int main(int count, char **words) {
         test_queries(width, 4000000 * scale);
         printf("queries of %zu bits: as document 01 says, %llu calls so far\n", 8 * width, calls);
         test_builds(width, 40000 * scale);
-        printf("builds of %zu bits: as document 01 says, %llu calls so far\n", 8 * width, calls);
+        printf("builds of %zu bits: as documents 01 and 02 say, %llu calls so far\n", 8 * width, calls);
         count_refusals(GP_TOO_MANY_KEYS, GP_WRONG_FINGERPRINTS);
     }
     test_flush_keys(1000000 * scale);

@@ -32,6 +32,7 @@ impl Family {
             Family::Counting => places.collect(),
             Family::Consecutive => places.map(|place| base.wrapping_add(place)).collect(),
             Family::Spaced => {
+                // The largest place has 13 binary digits, and none is lost.
                 let shift = base % 52;
                 places.map(|place| place << shift).collect()
             }

@@ -23,7 +23,7 @@ use xorf::Filter;
 const ROUNDS: usize = 20;
 const BATCHES_OF_ROUND: usize = 5;
 const QUERIES_OF_BATCH: usize = 100_000;
-const KEYS_OF_BATCH: usize = 8 * 4096;
+const KEYS_OF_BATCH: usize = 8 * MAX_KEYS;
 /// Keys that are asked again and again: few enough for the cache, since reading them is not what is measured.
 const ASKED: usize = 10_000;
 /// Lists that are built again and again.
@@ -115,11 +115,11 @@ const BENCHES: [Named; 11] = [
     ("query16-unlisted", || Bench::query::<u16>(false)),
     ("build-100", || Bench::build::<u8>(100, 1)),
     ("build-1000", || Bench::build::<u8>(1000, 1)),
-    ("build-4096", || Bench::build::<u8>(4096, 1)),
-    ("build-4096-second-attempt", || Bench::build::<u8>(4096, 2)),
+    ("build-most", || Bench::build::<u8>(MAX_KEYS, 1)),
+    ("build-most-second-attempt", || Bench::build::<u8>(MAX_KEYS, 2)),
     ("build16-100", || Bench::build::<u16>(100, 1)),
     ("build16-1000", || Bench::build::<u16>(1000, 1)),
-    ("build16-4096", || Bench::build::<u16>(4096, 1)),
+    ("build16-most", || Bench::build::<u16>(MAX_KEYS, 1)),
 ];
 
 /// Some work, what one repeat of it is called, the repeats of a batch, and the least time of a repeat so far.

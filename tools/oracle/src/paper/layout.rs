@@ -1,6 +1,6 @@
 //! "Layout in whole numbers".
 
-pub const MAX_KEYS: usize = 4096;
+pub const MAX_KEYS: usize = 8192;
 pub const MAX_ATTEMPTS: u32 = 1000;
 
 /// The largest size of each segment length from 4 on, each twice the one before.

@@ -15,18 +15,18 @@ pub fn compare(asked: &Asked, tally: &mut Tally) -> Result<(), String> {
     for size in [0, 1, 2, 5, 100, 1_000, MAX_KEYS] {
         one_fault_each(tally, &Family::Random.keys(size, &mut random))?;
     }
-    println!("  each buffer one short, each limit, each place of a repeated key: as document 01 says");
+    println!("  each buffer one short, each limit, each place of a repeated key: as documents 01 and 02 say");
     too_many_keys(tally, &mut random)?;
-    println!("  {MAX_KEYS} keys built, {} refused: as document 01 says", MAX_KEYS + 1);
+    println!("  {MAX_KEYS} keys built, {} refused: as document 02 says", MAX_KEYS + 1);
     for _ in 0..10_000 * asked.scale {
         several_faults(tally, &mut random)?;
     }
-    println!("  several faults at once: as document 01 says");
+    println!("  several faults at once: as documents 01 and 02 say");
     tally.at::<u8>().all_refused(1..=7)?;
     tally.at::<u16>().all_refused(1..=7)
 }
 
-/// Ours is held to the plain reading of document 01, in a room of these lengths.
+/// Ours is held to the plain reading of documents 01 and 02, in a room of these lengths.
 fn hold(tally: &mut Tally, keys: &[u64], limit: u32, lengths: [usize; BUFFERS]) -> Result<(), String> {
     let due = outcome(keys, limit, lengths);
     hold_build(tally, keys, limit, lengths, &due).map_err(|what| format!("room {lengths:?}: {what}"))
