@@ -14,7 +14,7 @@ use Rattle.layout.specs.declared.Layout.{Layout}
 use Rattle.layout.specs.Layout.{maxSlots, maxStarts, reaches, exponentOf, slotCountOf, halves, powerAbove, bucketStartsOf}
 use Rattle.layout.specs.Exponent.{maxExponent, exponent-between}
 use Rattle.layout.specs.Fits.{same-slots}
-use Rattle.layout.specs.Rows.{Row, row}
+use Rattle.layout.specs.Rows.{Row, row, rows}
 use Rattle.layout.specs.Growth.{RisesInRange, slots-rise, starts-rise}
 
 -- any list of up to hi keys needs at most a slots and p bucket starts
@@ -84,7 +84,7 @@ longer e more-slots more-starts = record {
 pub lengths : Lengths
 unfolding obeys exponentOf reaches halves powerAbove
 lengths =
-    let to-2 = first-row (row 2 12 2 (capacity-is {n = 2} {c = 12} (lit≤ tt) tt) refl) (lit≤ tt) refl in
+    let to-2 = first-row (rows .at-2) (lit≤ tt) refl in
     let to-4 = next-row (row 4 13 3 (capacity-is {n = 4} {c = 13} (lit≤ tt) tt) refl) to-2 (lit≤ tt) refl in
     let to-8 = next-row (row 8 20 3 (capacity-is {n = 8} {c = 20} (lit≤ tt) tt) refl) to-4 (lit≤ tt) refl in
     let to-27 = next-row (row 27 52 4 (capacity-is {n = 27} {c = 52} (lit≤ tt) tt) refl) to-8 (lit≤ tt) refl in
@@ -92,7 +92,7 @@ lengths =
     let to-303 = next-row (row 303 448 6 (capacity-is {n = 303} {c = 448} (lit≤ tt) tt) refl) to-91 (lit≤ tt) refl in
     let to-1009 = next-row (row 1009 1387 7 (capacity-is {n = 1009} {c = 1387} (lit≤ tt) tt) refl) to-303 (lit≤ tt) refl in
     let to-3361 = next-row (row 3361 4370 8 (capacity-is {n = 3361} {c = 4370} (lit≤ tt) tt) refl) to-1009 (lit≤ tt) refl in
-    let to-4096 = next-row (row 4096 5285 9 (capacity-is {n = 4096} {c = 5285} (lit≤ tt) tt) refl) to-3361 (lit≤ tt) refl in
+    let to-4096 = next-row (rows .at-4096) to-3361 (lit≤ tt) refl in
     let most = row maxKeys maxCapacity maxExponent (capacity-is {n = maxKeys} {c = maxCapacity} (lit≤ tt) tt) refl in
     record {
       up-to-2 = longer to-2 (lit≤ tt) (lit≤ tt);
