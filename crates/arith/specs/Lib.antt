@@ -5,7 +5,6 @@ pub mod StateClosed
 pub mod Fingerprint
 pub mod FingerprintBounded
 pub mod Slots
-pub mod SlotsPromised
 pub mod OneToOne
 pub mod Spread
 pub mod SeedBound

@@ -2,13 +2,12 @@
 use mathlib.Core.Path.{_≡_, ap, _∙_, subst, subst⁻¹}
 use mathlib.Core.Logic.{_≢_}
 use Prim.Native.Nat.{ℕ, _+_, _-_, _*_, _/_, _^_, _≤_, _<_}
-use native.Mathlib.Nat.{mod-eq-of-lt, mul-comm, mul-le-mul-right, mul-lt-mul-of-pos-right, le-of-lt, div-le-of-le-mul, div-lt-iff-lt-mul, add-div-right, add-mul-div-right, mul-pos, add-mul}
+use native.Mathlib.Nat.{mul-comm, mul-le-mul-right, mul-lt-mul-of-pos-right, le-of-lt, div-le-of-le-mul, div-lt-iff-lt-mul, add-div-right, add-mul-div-right, mul-pos, add-mul}
 use native.Mathlib.Omega.{arith}
 use lib.Pow.{pow-pos}
 use lib.Bits.{bitAnd, mask-lt}
 use Rattle.words.specs.Xor.{xor-above}
-use Rattle.arith.specs.Slots.{slot0, slot1, slot2, slotsOf}
-use Rattle.arith.specs.SlotsPromised.{slotsModulo}
+use Rattle.arith.specs.Slots.{slot0, slot1, slot2}
 
 -- ---- slot 0 alone
 
@@ -73,11 +72,3 @@ spread-apart {L} s = (
   λ e. omega (arith, s .segment2, ap (λ (x : ℕ). x / L) e),
   λ e. omega (arith, s .segment1, s .segment2, ap (λ (x : ℕ). x / L) e),
 )
-
--- ---- where the sums have room, nothing wraps
-
-pub modulo-in-room : (hash L mask span : ℕ) → hash < 2 ^ 64 → span + 2 * L < 2 ^ 32 → slotsModulo hash L mask span ≡ slotsOf hash L mask span
-unfolding slotsModulo slot1 slot2
-modulo-in-room hash L mask span h room =
-    let le = slot0-le hash span h in
-    rw (mod-eq-of-lt {n = slot0 hash span + L} {m = 2 ^ 32} (omega arith), mod-eq-of-lt {n = slot0 hash span + 2 * L} {m = 2 ^ 32} (omega arith))

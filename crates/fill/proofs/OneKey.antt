@@ -7,7 +7,7 @@ use native.Mathlib.Omega.{arith}
 use lib.ListN.{getD, set}
 use lib.Bits.{bitXor, xor-comm}
 use Rattle.words.specs.Xor.{xor-assoc, xor-cancel-right}
-use Rattle.arith.specs.SlotsPromised.{SlotsAre}
+use Rattle.arith.specs.Slots.{slotsOf}
 use Rattle.stuck.specs.Stuck.{Slots, slotAt, next}
 use Rattle.stuck.specs.Fill.{store}
 use Rattle.peel.specs.Segments.{slotsIn}
@@ -72,12 +72,12 @@ pub record OneKey (segment mask span slots hash position : ℕ) (three : List �
       ≡ store (record { slots = slotsIn segment mask span hash; position = position; fingerprint = fingerprint }) values
 
 module _ {segment mask span slots hash position : ℕ} {three : List ℕ} (layout : Segmented segment mask span slots) (below : position < 3)
-    (small : hash < 2 ^ 64) (are : SlotsAre hash segment mask span three) where
+    (small : hash < 2 ^ 64) (are : three ≡ slotsOf hash segment mask span) where
   abbrev key : Slots
   key = slotsIn segment mask span hash
 
   is : (q : ℕ) → q < 3 → getD three q 0 ≡ slotAt key q
-  is = slot-read layout small are
+  is = slot-read segment mask span hash are
 
   inside : (q : ℕ) → q < 3 → getD three q 0 < slots
   inside = slot-inside layout small are

@@ -6,7 +6,7 @@ use Prim.Native.Nat.{ℕ, zero, suc, _+_, _/_, _^_, _<_}
 use native.Mathlib.Omega.{arith}
 use lib.ListN.{length, getD, set}
 use lib.Bits.{bitXor}
-use Rattle.arith.specs.SlotsPromised.{SlotsAre}
+use Rattle.arith.specs.Slots.{slotsOf}
 use Rattle.stuck.specs.Stuck.{Slots, slotAt}
 use Rattle.stuck.specs.Ring.{Apart}
 use Rattle.machine.specs.Machine.{Sums}
@@ -58,7 +58,7 @@ pub touch-start : {segment mask span : ℕ} {counts sums : List ℕ} {key : Slot
 touch-start can = record { same-counts = refl; same-sums = refl; few = λ slot others. can .few slot }
 
 module _ {segment mask span hash : ℕ} {counts sums three : List ℕ} (can : CanAdd segment mask span counts sums) (small : hash < 2 ^ 64)
-    (are : SlotsAre hash segment mask span three) where
+    (are : three ≡ slotsOf hash segment mask span) where
   abbrev key : Slots
   key = slotsIn segment mask span hash
 
@@ -66,7 +66,7 @@ module _ {segment mask span hash : ℕ} {counts sums three : List ℕ} (can : Ca
   apart = slots-apart (can .layout) hash small
 
   at : (q : ℕ) → q < 3 → getD three q 0 ≡ slotAt key q
-  at = slot-read (can .layout) small are
+  at = slot-read segment mask span hash are
 
   module _ {q : ℕ} {counts′ sums′ : List ℕ} (lt : q < 3) (k : Touching key counts sums q counts′ sums′) where
     pub can-touch : CanTouch counts′ sums′ q (getD three q 0)

@@ -7,7 +7,7 @@ use native.Mathlib.Omega.{arith}
 use lib.ListN.{length, getD, set}
 use lib.Bits.{bitXor}
 use lib.Dec.{eqb}
-use Rattle.arith.specs.SlotsPromised.{SlotsAre}
+use Rattle.arith.specs.Slots.{slotsOf}
 use Rattle.stuck.specs.Total.{bit}
 use Rattle.stuck.specs.Stuck.{Slots, slotAt, next}
 use Rattle.stuck.specs.Ring.{Apart, slot-below, apart-from}
@@ -76,7 +76,7 @@ after-is (suc (suc (suc p))) h = absurd (omega arith)
 
 module _ {segment mask span : ℕ} {counts sums lone three : List ℕ} {top hash position q r : ℕ}
     (can : CanTake segment mask span counts sums lone top hash position) (small : hash < 2 ^ 64)
-    (are : SlotsAre hash segment mask span three) (q-is : q ≡ (position + 1) % 3) (r-is : r ≡ (position + 2) % 3) where
+    (are : three ≡ slotsOf hash segment mask span) (q-is : q ≡ (position + 1) % 3) (r-is : r ≡ (position + 2) % 3) where
   abbrev key : Slots
   key = slotsIn segment mask span hash
 
@@ -84,10 +84,10 @@ module _ {segment mask span : ℕ} {counts sums lone three : List ℕ} {top hash
   apart = slots-apart (can .layout) hash small
 
   at-q : getD three q 0 ≡ slotAt key (next position)
-  at-q = slot-read (can .layout) small are q (omega arith) ∙ ap (slotAt key) (q-is ∙ next-is position (can .position-is))
+  at-q = slot-read segment mask span hash are q (omega arith) ∙ ap (slotAt key) (q-is ∙ next-is position (can .position-is))
 
   at-r : getD three r 0 ≡ slotAt key (next (next position))
-  at-r = slot-read (can .layout) small are r (omega arith) ∙ ap (slotAt key) (r-is ∙ after-is position (can .position-is))
+  at-r = slot-read segment mask span hash are r (omega arith) ∙ ap (slotAt key) (r-is ∙ after-is position (can .position-is))
 
   -- a slot that some key touches
   some-key : (counts : List ℕ) (slot : ℕ) → 1 ≤ getD (countsIn counts) slot 0 → 4 ≤ getD counts slot 0

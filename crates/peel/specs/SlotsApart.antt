@@ -13,7 +13,7 @@ use Rattle.peel.specs.Segments.{slotsIn, hashesOf}
 use Rattle.peel.specs.Requires.{Segmented}
 
 module _ {segment mask span slots : ℕ} (layout : Segmented segment mask span slots) where
-  -- no sum of the slots of a hash wraps at 2 ^ 32
+  -- the sums of the slots of a hash have room in 32 bits
   pub in-room : span + 2 * segment < 2 ^ 32
   in-room = omega (arith, layout .slots-are, layout .numbered)
 

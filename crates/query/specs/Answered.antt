@@ -1,10 +1,10 @@
--- A query of fingerprints of any width, where its checks have passed: the slots that were made before them are in range, and what is left
--- over decides. Assumes nothing.
+-- A query of fingerprints of any width, where its checks have passed: the sums of the slots have room, the slots are in range, and what is
+-- left over decides. Assumes nothing.
 use mathlib.Core.Path.{_≡_, sym, ap}
 use mathlib.Core.Logic.{_≢_}
 use mathlib.Core.Bool.{Bool, true, false}
 use mathlib.Core.List.{List}
-use Prim.Native.Nat.{ℕ, _<_}
+use Prim.Native.Nat.{ℕ, _+_, _*_, _^_, _<_}
 use borrow.Author.Tests.{eq-eqb, ne-eqb}
 use lib.Bits.{bitXor}
 use lib.Dec.{eqb}
@@ -13,7 +13,6 @@ use Rattle.answers.specs.Answers.{gives}
 use Rattle.arith.specs.Murmur3.{hashOf}
 use Rattle.arith.specs.Fingerprint.{fingerprintOf}
 use Rattle.arith.specs.Slots.{slotsOf}
-use Rattle.arith.specs.SlotsPromised.{SlotsAre}
 use Rattle.stuck.specs.Fill.{queryXor}
 use Rattle.peel.specs.SlotsApart.{in-room}
 use Rattle.descriptor.specs.declared.Descriptor.{Descriptor}
@@ -25,6 +24,11 @@ use Rattle.query.specs.Suited.{Suited}
 abbrev pub xorAt : ℕ → List ℕ → List ℕ → ℕ
 xorAt fingerprint slots values =
     bitXor (bitXor (bitXor fingerprint (getD values (getD slots 0 0) 0)) (getD values (getD slots 1 0) 0)) (getD values (getD slots 2 0) 0)
+
+-- what the code of the slots asks
+pub slots-room : {d : Descriptor} {fingerprints : List ℕ} → Suited d fingerprints
+    → d .«segment_count_length» + 2 * d .«segment_length» < 2 ^ 32
+slots-room {d} s = in-room (accepted-segments d (s .good))
 
 -- each slot has a fingerprint, and a C program is told no where something is left over, and yes where nothing is
 pub record Answered (w : ℕ) (d : Descriptor) (fingerprints : List ℕ) (key fingerprint : ℕ) (slots : List ℕ) : Type 0 where
@@ -43,11 +47,10 @@ module _ (w : ℕ) (d : Descriptor) (fingerprints : List ℕ) (key : ℕ) (s : S
 
   -- of what the code has made of the key
   pub answered : {hash fingerprint : ℕ} {slots : List ℕ} → hash ≡ hashOf key (d .seed) → fingerprint ≡ fingerprintOf w hash
-      → SlotsAre hash (d .«segment_length») (d .«segment_length_mask») (d .«segment_count_length») slots
+      → slots ≡ slotsOf hash (d .«segment_length») (d .«segment_length_mask») (d .«segment_count_length»)
       → Answered w d fingerprints key fingerprint slots
   answered {hash} {fingerprint} {slots} is f made =
-      let are : slots ≡ slotsOf (hashOf key (d .seed)) (d .«segment_length») (d .«segment_length_mask») (d .«segment_count_length»)
-      = rw is at (made .in-room (in-room (accepted-segments d (s .good)))) in
+      let are : slots ≡ slotsOf (hashOf key (d .seed)) (d .«segment_length») (d .«segment_length_mask») (d .«segment_count_length») = rw is at made in
       let own : fingerprint ≡ fingerprintOf w (hashOf key (d .seed)) = rw is at f in
       let inside = accepted-slots d (s .good) key in
       record {

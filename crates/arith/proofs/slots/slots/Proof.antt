@@ -1,33 +1,37 @@
 -- `arith::slots::slots` meets its contract: h2's sum is made from h1's, before its xor. Assumes nothing.
-use mathlib.Core.Path.{_≡_, _∙_}
-use mathlib.Core.List.{List}
-use Prim.Native.Nat.{ℕ, _+_, _*_, _/_, _%_, _^_, _<_}
+use mathlib.Core.Path.{_≡_}
+use mathlib.Core.List.{[], _∷_}
+use Prim.Native.Nat.{ℕ, _+_, _*_, _/_, _^_, _≤_}
 use native.Mathlib.Omega.{arith}
-use lib.Bits.{and-le-r}
-use Rattle.arith.specs.Slots.{slot0}
-use Rattle.arith.specs.SlotsPromised.{slotsModulo, SlotsAre}
-use Rattle.arith.specs.Spread.{modulo-in-room}
+use lib.Bits.{bitXor, bitAnd, and-le-r}
+use Rattle.arith.specs.Slots.{slot0, slot1, slot2, slotsOf}
+use Rattle.arith.specs.Spread.{slot0-le}
 use borrow.Author.Needs.{needs}
 use Rattle.arith.proofs.slots.slots.Statement.{statement}
 use Rattle.arith.proofs.slots.slots.Tie as tie
 
-cast-upper : tie.Need-cast-upper
-cast-upper c = omega (arith, and-le-r (c .args .hash / 2 ^ 18) (c .args .mask))
+-- h0 is at most the span, so that the sums have the room that the caller shows
+first-le : (c : tie.After-mul-high) → c .mul-high .result ≤ c .before .args .span
+unfolding slot0
+first-le c = rw (c .mul-high .ensures) (slot0-le (c .before .args .hash) (c .before .args .span) (omega arith))
 
-cast-lower : tie.Need-cast-lower
-cast-lower c = omega (arith, and-le-r (c .args .hash) (c .args .mask))
-
-slots-are : {hash L mask span : ℕ} {s : List ℕ} → hash < 2 ^ 64 → s ≡ slotsModulo hash L mask span → SlotsAre hash L mask span s
-slots-are small is = record { always = is; in-room = λ room. is ∙ modulo-in-room _ _ _ _ small room }
+by-sums : (hash L mask span first : ℕ) → first ≡ hash * span / 2 ^ 64
+    → first ∷ bitXor (first + L) (bitAnd (hash / 2 ^ 18) mask) ∷ bitXor (first + L + L) (bitAnd hash mask) ∷ []
+    ≡ slotsOf hash L mask span
+unfolding slot0 slot1 slot2
+by-sums hash L mask span first is =
+    let twice : first + L + L ≡ first + 2 * L = omega arith in
+    rw (twice, is)
 
 returns : tie.Need-returns
-unfolding slotsModulo slot0
 returns c =
-    let a = c .before .before .before .args in
-    let first = c .before .before .mul-high .ensures in
-    let next = c .before .wrapping-add-u32 .ensures in
-    let after : c .wrapping-add-u322 .result ≡ (c .before .before .mul-high .result + 2 * a .segment) % 2 ^ 32 = omega (arith, c .wrapping-add-u322 .ensures, next) in
-    slots-are (omega arith) (rw (after, next, first))
+    let a = c .before .args in
+    by-sums (a .hash) (a .segment) (a .mask) (a .span) (c .mul-high .result) (c .mul-high .ensures)
 
 pub slots-spec : {M : Type 1} → statement M
-slots-spec = tie.close (tie.spec cast-upper cast-lower (λ c κs. search needs) (λ c κs. search needs) (λ c κs. search needs) returns)
+slots-spec =
+    tie.close
+    (tie.spec
+    (λ c. omega (arith, and-le-r (c .args .hash / 2 ^ 18) (c .args .mask))) (λ c. omega (arith, and-le-r (c .args .hash) (c .args .mask)))
+    (λ c κs. search needs)
+    (λ c. omega (arith, first-le c)) (λ c. omega (arith, first-le c)) returns)

@@ -2,20 +2,24 @@
 -- decides. Assumes nothing.
 use denote.Ref.{now}
 use borrow.Author.Needs.{needs}
-use Rattle.query.specs.Suited.{suited, unsuited}
-use Rattle.query.specs.Answered.{Answered, answered}
+use Rattle.query.specs.Suited.{Suited, suited, unsuited}
+use Rattle.query.specs.Answered.{Answered, slots-room, answered}
 use Rattle.bfuse16.proofs.ask.ask.Statement.{statement}
 use Rattle.bfuse16.proofs.ask.ask.Tie as tie
 
 returns : tie.Need-returns
 returns c = unsuited 16 _ _ _ (c .before .before .suits .ensures) (c .before .if1 .taken) (c .refused .ensures)
 
+good : (c : tie.After-fingerprint16) → let a = c .before .before .before .before .before .args in
+    Suited (a .d) (now (a .fingerprints))
+good c =
+    let k = c .before .before in
+    suited _ _ (k .before .suits .ensures) (k .if1 .left)
+
 passed : (c : tie.After-slots) → let a = c .before .before .before .before .before .before .args in
     Answered 16 (a .d) (now (a .fingerprints)) (a .key) (c .before .fingerprint16 .result) (c .slots .result)
 passed c =
-    let good = c .before .before .before in
-    answered 16 _ _ _ (suited _ _ (good .before .suits .ensures) (good .if1 .left)) (c .before .before .mix .ensures) (c .before .fingerprint16 .ensures)
-    (c .slots .ensures)
+    answered 16 _ _ _ (good (c .before)) (c .before .before .mix .ensures) (c .before .fingerprint16 .ensures) (c .slots .ensures)
 
 shared-slice-read-if2 : tie.Need-shared-slice-read-if2
 shared-slice-read-if2 c = search (passed (c .before))
@@ -36,7 +40,7 @@ pub ask-spec : {M : Type 1} → statement M
 ask-spec =
     tie.close
     (tie.spec
-    (λ c κs. search needs) (λ c κs. search needs) returns (λ c κs. search needs) (λ c κs. search needs) (λ c κs. search needs)
+    (λ c κs. search needs) (λ c κs. search needs) returns (λ c κs. search needs) (λ c κs. search needs) (λ c κs. slots-room (good c))
     (λ c. search needs) (λ c. search needs) (λ c. search needs) (λ c. search needs) (λ c. search needs) (λ c. search needs)
     (λ c. search (needs, passed c)) shared-slice-read-if2
     (λ c. search (needs, passed (c .before))) shared-slice-read-if2-2
