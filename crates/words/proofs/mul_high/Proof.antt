@@ -9,6 +9,9 @@ use Rattle.words.proofs.Fits.{product-below}
 use Rattle.words.proofs.mul_high.Statement.{statement}
 use Rattle.words.proofs.mul_high.Tie as tie
 
+returns : tie.Need-returns
+returns c = top-product (2 ^ 32) (c .args .hash) (c .args .n) (pow-pos 32)
+
 mul-low-product : tie.Need-mul-low-product
 mul-low-product c = record { fits = product-below 32 32 (omega arith) (omega arith) }
 
@@ -28,9 +31,6 @@ cast-result c = record {
       subst⁻¹ (λ (x : ℕ). x < 2 ^ 32) (top-product (2 ^ 32) (c .args .hash) (c .args .n) (pow-pos 32))
       (shr-lt 32 64 (product-below 64 32 (omega arith) (omega arith)));
 }
-
-returns : tie.Need-returns
-returns c = top-product (2 ^ 32) (c .args .hash) (c .args .n) (pow-pos 32)
 
 pub mul-high-spec : {M : Type 1} → statement M
 mul-high-spec =

@@ -1,14 +1,13 @@
 -- `fuse::search::hopeless` meets its contract: it says yes only where the test for repeated keys does. Assumes nothing.
-use mathlib.Core.Path.{_≡_, sym, _∙_}
-use Prim.Native.Nat.{ℕ}
-use native.Mathlib.Omega.{arith}
+use mathlib.Core.Path.{sym, _∙_}
+use mathlib.Core.Bool.{false≢true}
 use borrow.Author.Needs.{needs}
 use lib.Seq.{length-take-le}
 use Rattle.fuse.proofs.search.hopeless.Statement.{statement}
 use Rattle.fuse.proofs.search.hopeless.Tie as tie
 
 returns : tie.Need-returns
-returns c = λ e. absurd (let z : _≡_ {A = ℕ} 0 1 = cc in omega arith)
+returns c = λ e. absurd (false≢true e)
 
 slice-aggregate-repeated : tie.Need-slice-aggregate-repeated
 slice-aggregate-repeated c = sym (length-take-le _ _ (c .before .before .before .before .pre))

@@ -44,6 +44,9 @@ loop-holds c = (omega arith, omega arith, refl, c .before .before .before .befor
 try-attempt-requires : tie.Need-try-attempt-requires Inv-loop μ-loop
 try-attempt-requires c κs = c .before .before .before .before .before .before .loop .inv .3
 
+returns : tie.Need-returns Inv-loop μ-loop
+returns c = none-left _ _ _ _ (c .before .loop .inv .2) _ _ (c .if1 .taken)
+
 loop-again : tie.Need-loop-again Inv-loop μ-loop
 loop-again c =
     let at : tie.Else2 Inv-loop μ-loop = stuck (c .before .before .before) in
@@ -56,9 +59,6 @@ loop-again c =
       omega arith,
       omega arith,
     )
-
-returns : tie.Need-returns Inv-loop μ-loop
-returns c = none-left _ _ _ _ (c .before .loop .inv .2) _ _ (c .if1 .taken)
 
 returns-2 : tie.Need-returns-2 Inv-loop μ-loop
 returns-2 c =
