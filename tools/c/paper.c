@@ -1,4 +1,4 @@
-/* Document 01 in plain C. Written from the document, not from our code or the Rust. */
+/* docs/SPECIFICATION.md in plain C. Written from the paper that it tells in other words (document 01), not from our code or the Rust. */
 #include "paper.h"
 
 #include "gillpocketry.h"

@@ -1,5 +1,5 @@
-/* Document 01 in plain C, as far as the random test needs it: lengths, refusals, query, and the flush key as document 02, wish 3,
- * corrects it; the limit on keys is the header's. A width is the bytes of a fingerprint, 1 or 2. */
+/* docs/SPECIFICATION.md in plain C, as far as the random test needs it: lengths, refusals, query and flush key; the limit on keys is
+ * the header's. A width is the bytes of a fingerprint, 1 or 2. */
 #ifndef PAPER_H
 #define PAPER_H
 

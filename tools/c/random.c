@@ -12,6 +12,7 @@
 #include <stdarg.h>
 #include <stdio.h>
 #include <stdlib.h>
+#include <string.h>
 
 static uint64_t state;
 unsigned long long calls, refused[REFUSALS + 1];
@@ -43,7 +44,17 @@ size_t any_scale(size_t most) {
     return below((most >> below(digits + 1)) + 1);
 }
 
-/* The header's lengths serve every list up to n keys, and at the limit they are not longer than they must be. */
+/* The header's version in words is that in numbers. */
+static void test_header_version(void) {
+    char version[32];
+    snprintf(version, sizeof version, "%d.%d.%d", GP_VERSION_MAJOR, GP_VERSION_MINOR, GP_VERSION_PATCH);
+    if (strcmp(version, GP_VERSION) != 0) {
+        wrong("the header says version %s and %s", version, GP_VERSION);
+    }
+}
+
+/* The header's lengths serve every list up to n keys, and at the limit they are not longer than they must be. For more keys they are 0
+ * where n is of run time; tools/check-c sees that a constant does not compile. */
 static void test_header_lengths(void) {
     size_t needed[BUFFERS], most_slots = 0, most_starts = 0;
     for (size_t n = 0; n <= GP_MAX_KEYS; n++) {
@@ -52,6 +63,11 @@ static void test_header_lengths(void) {
         most_starts = needed[STARTS] > most_starts ? needed[STARTS] : most_starts;
         if (GP_SLOTS_UP_TO(n) < most_slots || GP_STARTS_UP_TO(n) < most_starts) {
             wrong("%zu keys need %zu slots and %zu bucket starts, more than the header says", n, most_slots, most_starts);
+        }
+    }
+    for (size_t n = GP_MAX_KEYS + 1; n <= GP_MAX_KEYS + 3; n++) {
+        if (GP_SLOTS_UP_TO(n) != 0 || GP_STARTS_UP_TO(n) != 0) {
+            wrong("the header gives a length for %zu keys, which no build takes", n);
         }
     }
     if (GP_MAX_SLOTS != most_slots || GP_MAX_STARTS != most_starts) {
@@ -119,16 +135,18 @@ int main(int count, char **words) {
     unsigned long scale = count > 2 ? strtoul(words[2], NULL, 10) : 1;
     state = seed;
     setvbuf(stdout, NULL, _IOLBF, BUFSIZ);
+    test_header_version();
     test_header_lengths();
+    test_damage();
     for (size_t width = 1; width <= 2; width++) {
         test_queries(width, 4000000 * scale);
-        printf("queries of %zu bits: as document 01 says, %llu calls so far\n", 8 * width, calls);
+        printf("queries of %zu bits: as the specification says, %llu calls so far\n", 8 * width, calls);
         test_builds(width, 40000 * scale);
-        printf("builds of %zu bits: as documents 01 and 02 say, %llu calls so far\n", 8 * width, calls);
+        printf("builds of %zu bits: as the specification says, %llu calls so far\n", 8 * width, calls);
         count_refusals(GP_TOO_MANY_KEYS, GP_WRONG_FINGERPRINTS);
     }
     test_flush_keys(1000000 * scale);
-    printf("flush keys: as documents 01 and 02 say, %llu calls in all, seed %" PRIu64 ", scale %lu\n", calls, seed, scale);
+    printf("flush keys: as the specification says, %llu calls in all, seed %" PRIu64 ", scale %lu\n", calls, seed, scale);
     count_refusals(GP_BAD_CLOCK, GP_BAD_CLOCK);
     return 0;
 }

@@ -25,4 +25,7 @@ size_t any_scale(size_t most);
 void test_queries(size_t width, unsigned long rounds);
 void test_builds(size_t width, unsigned long rounds);
 
+/* Of lists in which one bit is flipped. */
+void test_damage(void);
+
 #endif
