@@ -1,6 +1,7 @@
 // `flushlist` packs a text of due flushes into a list, and asks a list whether a flush is due. Results go to standard output and
 // what went wrong to standard error; a program of Rattle has no exit status.
 mod ask;
+mod held;
 mod messages;
 mod pack;
 mod sample;
@@ -50,10 +51,6 @@ fn pack_named() {
     let list_length = os::arg(3, &mut list);
     if os::errno() != 0 {
         os::fail(b"the list's name");
-        return;
-    }
-    if check::same(&text[..text_length], &list[..list_length]) {
-        messages::same_name(&text[..text_length]);
         return;
     }
     pack::run(&text[..text_length], &list[..list_length]);

@@ -14,10 +14,25 @@ pub fn usage() {
     );
 }
 
-// A list under the text's own name would take its place.
-pub fn same_name(name: &[u8]) {
-    printing::error(name);
-    printing::error(b": text and list have the same name\n");
+// The list is packed all the same: a week may have no flush. But an empty text is more often a mistake.
+pub fn no_flush(list: &[u8]) {
+    printing::error(list);
+    printing::error(
+        b": no flush in the text: the list says no to every question, but for about one in 256\n",
+    );
+}
+
+// The list was written, but what now has its name was not seen.
+pub fn not_read_back(list: &[u8]) {
+    printing::error(list);
+    printing::error(b": written, but it could not be read back; pack again\n");
+}
+
+// What now has the list's name is not the list that was packed.
+pub fn not_held(list: &[u8]) {
+    printing::error(list);
+    printing::error(b": does not answer yes to every key of the text: ");
+    printing::error(b"another program wrote it, or its bytes changed; pack again\n");
 }
 
 // What is wrong with a line, by its number.
@@ -74,20 +89,15 @@ fn reason(why: Refusal) {
         Refusal::ShortScratch => printing::error(b"a scratch buffer is too short"),
         Refusal::RepeatedKeys => printing::error(b"two keys are equal"),
         Refusal::Stuck => printing::error(b"every allowed attempt has a stuck set"),
-        Refusal::Clock => printing::error(b"hour outside -2^39..2^39 - 1"),
-        _ => of_list(why),
-    }
-}
-
-// Why a list is refused.
-fn of_list(why: Refusal) {
-    match why {
         Refusal::ShortDescriptor => printing::error(b"fewer than 20 bytes of descriptor"),
         Refusal::SegmentLength => printing::error(b"segment length no power of two in 4..262144"),
         Refusal::Mask => printing::error(b"mask is not the segment length less 1"),
         Refusal::CountLength => printing::error(
             b"segment count length 0, no multiple of the segment length, or too large",
         ),
-        _ => printing::error(b"not as many fingerprints as the descriptor says"),
+        Refusal::FingerprintLength => {
+            printing::error(b"not as many fingerprints as the descriptor says")
+        }
+        Refusal::Clock => printing::error(b"hour outside -2^39..2^39 - 1"),
     }
 }

@@ -3,6 +3,7 @@ ghost use mathlib.Core.Path.{_≡_};
 ghost use Prim.Native.Nat.{_*_};
 ghost use lib.ListN.{length};
 ghost use Rattle.capacity.specs.Capacity.{maxKeys};
+use crate::held;
 use crate::messages;
 use bfuse8::BuildAnswer;
 use capacity::MAX_KEYS;
@@ -28,8 +29,11 @@ fn text_room() -> [u8; TEXT_ROOM]
     [0; TEXT_ROOM]
 }
 
-// Whether the list was written; if not, it is said why.
+// Whether the list was written, and read back as it should be; if not, it is said why.
 pub fn run(text: &[u8], list: &[u8]) -> bool {
+    if !saving::may_replace(text, list) {
+        return false;
+    }
     let mut room = text_room();
     let contents = files::read(text, &mut room);
     if !contents.whole {
@@ -52,6 +56,9 @@ fn pack_text(text: &[u8], list: &[u8]) -> bool {
 }
 
 fn pack_keys(keys: &[u64], list: &[u8]) -> bool {
+    if keys.len() == 0 {
+        messages::no_flush(list);
+    }
     let mut fingerprints = [0u8; MAX_SLOTS];
     let mut lone = [0u32; MAX_SLOTS];
     let mut counts = [0u16; MAX_SLOTS];
@@ -76,6 +83,9 @@ fn pack_keys(keys: &[u64], list: &[u8]) -> bool {
             if !save(d, &fingerprints[..n], list) {
                 return false;
             }
+            if !holds(list, keys) {
+                return false;
+            }
             tell(list, keys.len(), n, attempt);
             true
         }
@@ -90,12 +100,28 @@ fn save(d: Descriptor, fingerprints: &[u8], list: &[u8]) -> bool {
     let mut bytes = [0u8; DESCRIPTOR_SIZE];
     let answer = descriptor::write(d, &mut bytes);
     match answer {
-        WriteAnswer::Done => files::write(list, &bytes, fingerprints),
+        WriteAnswer::Done => saving::write(list, &bytes, fingerprints),
         WriteAnswer::Refused(why) => {
             messages::refused(why);
             false
         }
     }
+}
+
+// Whether the file that now has the name answers yes to every key. It may be another program's; then it is said.
+fn holds(list: &[u8], keys: &[u64]) -> bool {
+    let mut room = held::list_room();
+    let contents = files::read(list, &mut room);
+    if !contents.whole {
+        messages::not_read_back(list);
+        return false;
+    }
+    let n = contents.count;
+    if !held::all(&room[..n], keys) {
+        messages::not_held(list);
+        return false;
+    }
+    true
 }
 
 // As `due.list: keys 13, fingerprints 48, attempt 1`.
