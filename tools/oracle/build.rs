@@ -6,7 +6,6 @@ fn main() {
         println!("cargo:rerun-if-changed={archive}");
         for program in ["compare", "bench"] {
             println!("cargo:rustc-link-arg-bin={program}={archive}");
-            println!("cargo:rustc-link-arg-bin={program}=-lm");
         }
     }
 }

@@ -53,6 +53,20 @@ fn flush_keys(size: usize, choice: u64) -> Vec<u64> {
     (0..size as u64).map(key).collect()
 }
 
+/// The key on a line of a text of due flushes, up to its comment: a plain key, or unit, valve and second.
+pub fn key_on(line: &str) -> Option<u64> {
+    let words: Vec<&str> = line.split('#').next()?.split_whitespace().collect();
+    match words[..] {
+        [plain] => plain.parse().ok(),
+        [unit, valve, seconds] => flush::key(unit.parse().ok()?, valve.parse().ok()?, seconds.parse().ok()?).ok(),
+        _ => None,
+    }
+}
+
+pub fn keys_of_text(text: &str) -> Vec<u64> {
+    text.lines().filter_map(key_on).collect()
+}
+
 /// The list that a program of the gate makes by itself for each size.
 pub fn of_size(size: usize) -> Vec<u64> {
     (0..size as u64).map(|place| mix64(((size as u64) << 32) + place + 1)).collect()

@@ -1,11 +1,18 @@
 //! Time of our C entries beside the Rust's, in one run: the least of many batches on each side, taken in turn, so that a noisy
-//! machine is noisy for both. Each line of the output is: name, what is counted, nanoseconds of the Rust, nanoseconds of ours.
+//! machine is noisy for both. Each line of the output is: name, what is counted, the numbers of its lists, nanoseconds of the Rust,
+//! nanoseconds of ours.
 //!
-//! usage: bench                       the times
-//!        bench NAME SIDE REPEATS     only does that much of the work, rust or ours, for a tool that counts instructions
+//! usage: bench                                   the times
+//!        bench --names                           the lines without times
+//!        bench NAME SIDE REPEATS NUMBERS..       only does that much of the work, rust or ours, with the lists of these numbers, for a tool
+//!                                                that counts instructions: it is spared the search for lists of the kind that is counted
+
+#![no_main]
 
 #[path = "../ours.rs"]
 mod ours;
+#[path = "../start.rs"]
+mod start;
 
 use oracle::keys::Family;
 use oracle::paper::attempt::{attempt, search, Built};
@@ -15,7 +22,6 @@ use oracle::random::Random;
 use oracle::rust;
 use ours::Entries;
 use std::hint::black_box;
-use std::process::ExitCode;
 use std::time::Instant;
 use xorf::Filter;
 
@@ -43,8 +49,8 @@ struct Queries<F> {
 
 impl<F: Entries> Queries<F> {
     /// With `mixed`, every second key on average is a listed one, in no order that a machine could learn; without, none is.
-    fn of_size(size: usize, mixed: bool) -> Self {
-        let mut random = Random::new(1, "queries");
+    fn of_size(size: usize, mixed: bool, number: u64) -> Self {
+        let mut random = Random::new(number, "queries");
         let keys = Family::Random.keys(size, &mut random);
         let list = search(&keys, MAX_ATTEMPTS).expect("random keys are built").filled();
         let asked = (0..ASKED).map(|_| if mixed && random.chance(2) { random.pick(&keys) } else { random.word() }).collect();
@@ -73,18 +79,19 @@ struct Builds<F> {
 }
 
 impl<F: Entries> Builds<F> {
-    /// Lists of random keys whose search ends at this attempt.
-    fn of_size(size: usize, ends_at: u32) -> Self {
-        let mut random = Random::new(1, "builds");
-        let mut lists = Vec::new();
-        while lists.len() < LISTS {
-            let keys = Family::Random.keys(size, &mut random);
-            if (1..=ends_at).find(|&number| attempt(&keys, number).is_some()) == Some(ends_at) {
-                lists.push(keys);
-            }
-        }
-        Builds { lists, room: Room::patterned(needed(size)) }
+    fn of_size(size: usize, numbers: &[u64]) -> Self {
+        Builds { lists: numbers.iter().map(|&number| list(size, number)).collect(), room: Room::patterned(needed(size)) }
     }
+}
+
+fn list(size: usize, number: u64) -> Vec<u64> {
+    Family::Random.keys(size, &mut Random::new(number, "builds"))
+}
+
+/// The numbers of the first lists whose search ends at this attempt.
+fn numbers_of_lists(size: usize, ends_at: u32) -> Vec<u64> {
+    let ends = |keys: &[u64]| (1..=ends_at).find(|&number| attempt(keys, number).is_some()) == Some(ends_at);
+    (1..).filter(|&number| ends(&list(size, number))).take(LISTS).collect()
 }
 
 impl<F: Entries> Work for Builds<F> {
@@ -105,46 +112,55 @@ impl<F: Entries> Work for Builds<F> {
     }
 }
 
-/// The name of a bench, and what makes it ready.
-type Named = (&'static str, fn() -> Bench);
+/// The name of a bench, and what makes it ready, with the lists of some numbers or of those that it finds.
+type Named = (&'static str, fn(Option<Vec<u64>>) -> Bench);
 
 const BENCHES: [Named; 11] = [
-    ("query-mixed", || Bench::query::<u8>(true)),
-    ("query-unlisted", || Bench::query::<u8>(false)),
-    ("query16-mixed", || Bench::query::<u16>(true)),
-    ("query16-unlisted", || Bench::query::<u16>(false)),
-    ("build-100", || Bench::build::<u8>(100, 1)),
-    ("build-1000", || Bench::build::<u8>(1000, 1)),
-    ("build-most", || Bench::build::<u8>(MAX_KEYS, 1)),
-    ("build-most-second-attempt", || Bench::build::<u8>(MAX_KEYS, 2)),
-    ("build16-100", || Bench::build::<u16>(100, 1)),
-    ("build16-1000", || Bench::build::<u16>(1000, 1)),
-    ("build16-most", || Bench::build::<u16>(MAX_KEYS, 1)),
+    ("query-mixed", |numbers| Bench::query::<u8>(true, numbers)),
+    ("query-unlisted", |numbers| Bench::query::<u8>(false, numbers)),
+    ("query16-mixed", |numbers| Bench::query::<u16>(true, numbers)),
+    ("query16-unlisted", |numbers| Bench::query::<u16>(false, numbers)),
+    ("build-100", |numbers| Bench::build::<u8>(100, 1, numbers)),
+    ("build-1000", |numbers| Bench::build::<u8>(1000, 1, numbers)),
+    ("build-most", |numbers| Bench::build::<u8>(MAX_KEYS, 1, numbers)),
+    ("build-most-second-attempt", |numbers| Bench::build::<u8>(MAX_KEYS, 2, numbers)),
+    ("build16-100", |numbers| Bench::build::<u16>(100, 1, numbers)),
+    ("build16-1000", |numbers| Bench::build::<u16>(1000, 1, numbers)),
+    ("build16-most", |numbers| Bench::build::<u16>(MAX_KEYS, 1, numbers)),
 ];
 
-/// Some work, what one repeat of it is called, the repeats of a batch, and the least time of a repeat so far.
+/// Some work, what one repeat of it is called, the numbers of its lists, the repeats of a batch, and the least time of a repeat so far.
 struct Bench {
     work: Box<dyn Work>,
     what: String,
+    numbers: Vec<u64>,
     repeats: usize,
     rust: f64,
     ours: f64,
 }
 
 impl Bench {
-    fn new(work: impl Work + 'static, what: String, repeats: usize) -> Self {
-        Bench { work: Box::new(work), what, repeats, rust: f64::INFINITY, ours: f64::INFINITY }
+    fn new(work: impl Work + 'static, what: String, numbers: Vec<u64>, repeats: usize) -> Self {
+        Bench { work: Box::new(work), what, numbers, repeats, rust: f64::INFINITY, ours: f64::INFINITY }
     }
 
-    fn query<F: Entries + 'static>(mixed: bool) -> Self {
+    fn query<F: Entries + 'static>(mixed: bool, numbers: Option<Vec<u64>>) -> Self {
+        let numbers = numbers.unwrap_or(vec![1]);
         let listed = if mixed { "half" } else { "none" };
         let what = format!("{} bits: query of a list of {MAX_KEYS} keys, {listed} of those asked listed", F::BITS);
-        Bench::new(Queries::<F>::of_size(MAX_KEYS, mixed), what, QUERIES_OF_BATCH)
+        Bench::new(Queries::<F>::of_size(MAX_KEYS, mixed, numbers[0]), what, numbers, QUERIES_OF_BATCH)
     }
 
-    fn build<F: Entries + 'static>(size: usize, ends_at: u32) -> Self {
+    fn build<F: Entries + 'static>(size: usize, ends_at: u32, numbers: Option<Vec<u64>>) -> Self {
+        let numbers = numbers.unwrap_or_else(|| numbers_of_lists(size, ends_at));
         let what = format!("{} bits: build of {size} keys, ends at attempt {ends_at}", F::BITS);
-        Bench::new(Builds::<F>::of_size(size, ends_at), what, KEYS_OF_BATCH / size)
+        Bench::new(Builds::<F>::of_size(size, &numbers), what, numbers, KEYS_OF_BATCH / size)
+    }
+
+    /// The line of the output, but for the times.
+    fn line(&self, name: &str) -> String {
+        let numbers: Vec<String> = self.numbers.iter().map(u64::to_string).collect();
+        format!("{name}\t{}\t{}", self.what, numbers.join(" "))
     }
 
     fn round(&mut self) -> Result<(), String> {
@@ -169,19 +185,26 @@ fn nanoseconds(repeats: usize, side: impl FnOnce(usize) -> u64) -> (f64, u64) {
 }
 
 fn times() -> Result<(), String> {
-    let mut benches = BENCHES.map(|(name, bench)| (name, bench()));
+    let mut benches = BENCHES.map(|(name, bench)| (name, bench(None)));
     for _ in 0..ROUNDS {
         benches.iter_mut().try_for_each(|(_, bench)| bench.round())?;
     }
     for (name, bench) in benches {
-        println!("{name}\t{}\t{:.2}\t{:.2}", bench.what, bench.rust, bench.ours);
+        println!("{}\t{:.2}\t{:.2}", bench.line(name), bench.rust, bench.ours);
     }
     Ok(())
 }
 
-fn only(name: &str, side: &str, repeats: &str) -> Option<()> {
+fn names() {
+    for (name, bench) in BENCHES {
+        println!("{}", bench(None).line(name));
+    }
+}
+
+fn only(name: &str, side: &str, repeats: &str, numbers: &[String]) -> Option<()> {
     let (_, bench) = BENCHES.iter().find(|(known, _)| *known == name)?;
-    let mut work = bench().work;
+    let numbers = numbers.iter().map(|number| number.parse().ok()).collect::<Option<Vec<u64>>>()?;
+    let mut work = bench(Some(numbers)).work;
     let repeats = repeats.parse().ok()?;
     match side {
         "rust" => black_box(work.rust(repeats)),
@@ -191,16 +214,23 @@ fn only(name: &str, side: &str, repeats: &str) -> Option<()> {
     Some(())
 }
 
-fn main() -> ExitCode {
+/// Gives the exit status.
+fn run() -> i32 {
     let words: Vec<String> = std::env::args().skip(1).collect();
     let done = match &words[..] {
         [] => times(),
-        [name, side, repeats] => only(name, side, repeats).ok_or_else(|| "no such work".into()),
-        _ => Err("usage: bench [NAME SIDE REPEATS]".into()),
+        [word] if word == "--names" => {
+            names();
+            Ok(())
+        }
+        [name, side, repeats, numbers @ ..] if !numbers.is_empty() => {
+            only(name, side, repeats, numbers).ok_or_else(|| "no such work".into())
+        }
+        _ => Err("usage: bench [--names | NAME SIDE REPEATS NUMBERS..]".into()),
     };
     if let Err(what) = done {
         eprintln!("bench: {what}");
-        return ExitCode::FAILURE;
+        return 1;
     }
-    ExitCode::SUCCESS
+    0
 }

@@ -1,6 +1,7 @@
 //! What the clerk's tool prints of its sample, and the example of its own flushes: the lists are the Rust's, the flush keys those of the
 //! plain reading.
 
+use oracle::keys::{key_on, keys_of_text};
 use oracle::paper::attempt::Built;
 use oracle::paper::flush::{key, SECONDS_OF_HOUR};
 use oracle::rust::{build, contains, Filtered};
@@ -10,20 +11,10 @@ fn asked<F: Filtered>(list: &Built<F>, key: u64) -> bool {
     contains(&list.descriptor, &list.fingerprints, key)
 }
 
-/// The key on a line of a due list, up to its comment.
-fn key_on(line: &str) -> Option<u64> {
-    let words: Vec<&str> = line.split('#').next()?.split_whitespace().collect();
-    match words[..] {
-        [plain] => plain.parse().ok(),
-        [unit, valve, seconds] => key(unit.parse().ok()?, valve.parse().ok()?, seconds.parse().ok()?).ok(),
-        _ => None,
-    }
-}
-
 /// The lines that are due for the sample list and the questions among the stored lines.
 pub fn of_sample(text: &str, stored: &str) -> Option<String> {
     const ASK: &str = "$ flushlist ask due.list ";
-    let keys: Vec<u64> = text.lines().filter_map(key_on).collect();
+    let keys = keys_of_text(text);
     let list = build::<u8>(&keys)?;
     let mut due = String::from("$ flushlist pack due.txt due.list\n");
     writeln!(due, "due.list: keys {}, fingerprints {}, attempt {}", keys.len(), list.fingerprints.len(), list.attempt).ok()?;

@@ -106,6 +106,16 @@ impl<'a, F: Entries> List<'a, F> {
         let asked = format!("key {key} asked of descriptor {:02x?} at {} bits", self.descriptor, F::BITS);
         Err(format!("{asked}: ours answers {answer}, the Rust {due}"))
     }
+
+    /// Both must answer yes to every key of the list, and the same to so many others.
+    pub fn hold_queries(&self, tally: &mut Tally, keys: &[u64], others: usize, random: &mut Random) -> Result<(), String> {
+        for &key in keys {
+            if self.hold_query(tally, key)? != YES {
+                return Err(format!("{} at {} bits: listed key {key} is answered with no", shown(keys), F::BITS));
+            }
+        }
+        (0..others).try_for_each(|_| self.hold_query(tally, random.word()).map(|_| ()))
+    }
 }
 
 /// All of a list within the stated inputs, at each width: the Rust, the plain reading and ours give the same bytes, and the same
@@ -136,19 +146,8 @@ fn hold_list_of_width<F: Entries>(
     }
     let room = hold_width(tally, keys, MAX_ATTEMPTS, with_spare(keys.len(), SPARE), &Ok(built.clone()))?;
     *tally.at::<F>().attempts.entry(built.attempt).or_default() += 1;
-    hold_queries(tally, keys, &built, random)?;
+    // What is asked are the bytes that ours has written, so the Rust's own reader takes them too.
+    let (descriptor, fingerprints) = (&room.descriptor[..built.descriptor.len()], &room.fingerprints[..built.fingerprints.len()]);
+    List::accepted(descriptor, fingerprints).hold_queries(tally, keys, UNLISTED_QUERIES, random)?;
     Ok(room)
-}
-
-fn hold_queries<F: Entries>(tally: &mut Tally, keys: &[u64], built: &Built<F>, random: &mut Random) -> Result<(), String> {
-    let list = List::accepted(&built.descriptor, &built.fingerprints);
-    for &key in keys {
-        if list.hold_query(tally, key)? != YES {
-            return Err(format!("{} at {} bits: listed key {key} is answered with no", shown(keys), F::BITS));
-        }
-    }
-    for _ in 0..UNLISTED_QUERIES {
-        list.hold_query(tally, random.word())?;
-    }
-    Ok(())
 }
