@@ -5,10 +5,10 @@ from .draw import MUTED, WIDTH, Picture, wide
 
 # What each crate is, in one or two short lines. A crate of crates.txt that is not here, or one here that is not there, is an error.
 SAYS = {
-    "words": ("64-bit words:", "products, xor, bytes"),
+    "words": ("64-bit words:", "xor, bytes"),
     "reorder": ("the same elements", "in another order"),
-    "answers": ("the twelve refusals", "and their numbers"),
-    "capacity": ("the table of capacities", "and its rule"),
+    "answers": ("the twelve", "refusals"),
+    "capacity": ("the table of", "capacities"),
     "arith": ("hash, seeds,", "fingerprint, slots"),
     "stuck": ("sticking, removing", "and filling"),
     "flush": ("the flush", "key"),

@@ -8,6 +8,7 @@ SOURCE = "docs/SPEED.md"
 COLUMNS = ["what", "Rust, ns", "ours, ns", "ours / Rust"]
 EDGE, LEFT, RIGHT = 16, 84, 520  # the longest bar ends at RIGHT
 BAR, GROUP = 18, 30  # the height of a bar with its gap, and of a group's name with its gap
+LABEL = 32  # the width of a ratio in words
 FASTER, SLOWER = "#8cc095", "#e6a583"
 
 
@@ -69,8 +70,15 @@ def bar(picture, y, scale, row):
     width, rust, ours, ratio = row
     picture.text(LEFT - 8, y + 13, width, anchor="end", room=LEFT - EDGE)
     picture.add("rect", x=LEFT, y=y + 1, width=scale * ratio, height=BAR - 3, rx=2, fill=shade(ratio))
-    picture.text(LEFT + scale * ratio + 8, y + 13, f"{ratio:.2f}", bold=True)
+    picture.text(label_at(scale, ratio), y + 13, f"{ratio:.2f}", bold=True)
     picture.text(WIDTH - EDGE, y + 13, f"{time_in_words(ours)} / {time_in_words(rust)}", anchor="end", fill=MUTED)
+
+
+def label_at(scale, ratio):
+    """Behind the bar; where the line of equal times would go through it, behind that line."""
+    x = LEFT + scale * ratio + 8
+    line = LEFT + scale
+    return line + 8 if ratio <= 1 and x + LABEL > line else x
 
 
 def shade(ratio):
