@@ -3,11 +3,6 @@ use borrow.Author.Needs.{needs}
 use Rattle.bfuse16.proofs.pack.write.Statement.{statement}
 use Rattle.bfuse16.proofs.pack.write.Tie as tie
 
-fill16-requires : tie.Need-fill16-requires
-fill16-requires c κs =
-    let cleared : tie.After-clear-u16 = c .before .before .before .before .before in
-    rw (cleared .clear-u16 .ensures) (cleared .before .before .before .before .before .pre)
-
 returns : tie.Need-returns
 returns c =
     let last : tie.After-clear-taken = c .before .before .before .before in
@@ -18,6 +13,11 @@ returns c =
       positions-zeroed = last .clear-taken .ensures .0;
       order-zeroed = last .clear-taken .ensures .1;
     }
+
+fill16-requires : tie.Need-fill16-requires
+fill16-requires c κs =
+    let cleared : tie.After-clear-u16 = c .before .before .before .before .before in
+    rw (cleared .clear-u16 .ensures) (cleared .before .before .before .before .before .pre)
 
 pub write-spec : {M : Type 1} → statement M
 write-spec =

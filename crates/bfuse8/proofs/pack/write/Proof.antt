@@ -3,11 +3,6 @@ use borrow.Author.Needs.{needs}
 use Rattle.bfuse8.proofs.pack.write.Statement.{statement}
 use Rattle.bfuse8.proofs.pack.write.Tie as tie
 
-fill8-requires : tie.Need-fill8-requires
-fill8-requires c κs =
-    let cleared : tie.After-clear-u8 = c .before .before .before .before .before in
-    rw (cleared .clear-u8 .ensures) (cleared .before .before .before .before .before .pre)
-
 returns : tie.Need-returns
 returns c =
     let last : tie.After-clear-taken = c .before .before .before .before in
@@ -18,6 +13,11 @@ returns c =
       positions-zeroed = last .clear-taken .ensures .0;
       order-zeroed = last .clear-taken .ensures .1;
     }
+
+fill8-requires : tie.Need-fill8-requires
+fill8-requires c κs =
+    let cleared : tie.After-clear-u8 = c .before .before .before .before .before in
+    rw (cleared .clear-u8 .ensures) (cleared .before .before .before .before .before .pre)
 
 pub write-spec : {M : Type 1} → statement M
 write-spec =
