@@ -6,7 +6,7 @@ use Rattle.answers.specs.declared.Refusal.TheVariants.{TooManyKeys, AttemptOutOf
 use Rattle.answers.specs.declared.Refusal.TheVariants.{ShortDescriptor, SegmentLength, Mask, CountLength, FingerprintLength, Clock}
 
 abbrev pub number_of : Refusal → ℕ
-number_of TooManyKeys = 1  -- more than `maxKeys` keys (capacity `Capacity`)
+number_of TooManyKeys = 1  -- more than `max_keys` keys (capacity `Capacity`)
 number_of AttemptOutOfRange = 2  -- attempt limit or number outside 1..1,000
 number_of ShortFingerprints = 3  -- room for fingerprints below A
 number_of ShortScratch = 4  -- any scratch buffer too short

@@ -8,8 +8,8 @@ pub data Done : Type 0 where
   done : Done
 
 -- one check: where there is this fault, it refuses with this number
-abbrev pub refuseIf : (fault : Bool) (number : ℕ) → Answer Done
-refuseIf fault number = cond fault (refuses number) (gives done)
+abbrev pub refuse_if : (fault : Bool) (number : ℕ) → Answer Done
+refuse_if fault number = cond fault (refuses number) (gives done)
 
 -- one after the other: the first that refuses decides
 infixr 20 ◌then◌
@@ -18,6 +18,6 @@ refuses number then next = refuses number
 gives value then next = next
 
 -- a refusal leaves the memory as it was; else the outcome is the one that follows
-abbrev pub unlessRefused : {A B M : Type 0} → (checks : Answer A) (memory : M) (next : Outcome B M) → Outcome B M
-unlessRefused (refuses number) memory next = outcome (refuses number) memory
-unlessRefused (gives value) memory next = next
+abbrev pub unless_refused : {A B M : Type 0} → (checks : Answer A) (memory : M) (next : Outcome B M) → Outcome B M
+unless_refused (refuses number) memory next = outcome (refuses number) memory
+unless_refused (gives value) memory next = next

@@ -13,37 +13,37 @@ refusals =
     ∷ ShortDescriptor ∷ SegmentLength ∷ Mask ∷ CountLength ∷ FingerprintLength ∷ Clock ∷ []
 
 -- the refusal of a number from 1 to 12
-pub refusalOf : ℕ → Refusal
-refusalOf n = get_or refusals (n - 1) Clock
+pub refusal_of : ℕ → Refusal
+refusal_of n = get_or refusals (n - 1) Clock
 
-pub refusal-number : (r : Refusal) → refusalOf (number_of r) ≡ r
-unfolding refusalOf refusals
-refusal-number TooManyKeys = refl
-refusal-number AttemptOutOfRange = refl
-refusal-number ShortFingerprints = refl
-refusal-number ShortScratch = refl
-refusal-number RepeatedKeys = refl
-refusal-number Stuck = refl
-refusal-number ShortDescriptor = refl
-refusal-number SegmentLength = refl
-refusal-number Mask = refl
-refusal-number CountLength = refl
-refusal-number FingerprintLength = refl
-refusal-number Clock = refl
+pub refusal_number : (r : Refusal) → refusal_of (number_of r) ≡ r
+unfolding refusal_of refusals
+refusal_number TooManyKeys = refl
+refusal_number AttemptOutOfRange = refl
+refusal_number ShortFingerprints = refl
+refusal_number ShortScratch = refl
+refusal_number RepeatedKeys = refl
+refusal_number Stuck = refl
+refusal_number ShortDescriptor = refl
+refusal_number SegmentLength = refl
+refusal_number Mask = refl
+refusal_number CountLength = refl
+refusal_number FingerprintLength = refl
+refusal_number Clock = refl
 
 pub one_number : (r s : Refusal) → number_of r ≡ number_of s → r ≡ s
-one_number r s e = sym (refusal-number r) ∙ ap refusalOf e ∙ refusal-number s
+one_number r s e = sym (refusal_number r) ∙ ap refusal_of e ∙ refusal_number s
 
-pub up-to-twelve : (r : Refusal) → number_of r ≤ 12
-up-to-twelve TooManyKeys = omega arith
-up-to-twelve AttemptOutOfRange = omega arith
-up-to-twelve ShortFingerprints = omega arith
-up-to-twelve ShortScratch = omega arith
-up-to-twelve RepeatedKeys = omega arith
-up-to-twelve Stuck = omega arith
-up-to-twelve ShortDescriptor = omega arith
-up-to-twelve SegmentLength = omega arith
-up-to-twelve Mask = omega arith
-up-to-twelve CountLength = omega arith
-up-to-twelve FingerprintLength = omega arith
-up-to-twelve Clock = omega arith
+pub up_to_twelve : (r : Refusal) → number_of r ≤ 12
+up_to_twelve TooManyKeys = omega arith
+up_to_twelve AttemptOutOfRange = omega arith
+up_to_twelve ShortFingerprints = omega arith
+up_to_twelve ShortScratch = omega arith
+up_to_twelve RepeatedKeys = omega arith
+up_to_twelve Stuck = omega arith
+up_to_twelve ShortDescriptor = omega arith
+up_to_twelve SegmentLength = omega arith
+up_to_twelve Mask = omega arith
+up_to_twelve CountLength = omega arith
+up_to_twelve FingerprintLength = omega arith
+up_to_twelve Clock = omega arith

@@ -3,5 +3,5 @@ use Rattle.std.specs.Prelude.{ℕ, ◌%◌, ◌^◌}
 use Rattle.arith.specs.Steps.{xorshift}
 
 -- the w low bits of hash xor (hash shifted right by 32)
-unfoldable pub fingerprintOf : (w hash : ℕ) → ℕ
-fingerprintOf w hash = xorshift 32 hash % 2 ^ w
+unfoldable pub fingerprint_of : (w hash : ℕ) → ℕ
+fingerprint_of w hash = xorshift 32 hash % 2 ^ w

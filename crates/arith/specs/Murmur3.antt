@@ -3,9 +3,9 @@
 use Rattle.std.specs.Prelude.{ℕ, ◌+◌, ◌%◌, ◌^◌}
 use Rattle.arith.specs.Steps.{xorshift, times}
 
-unfoldable pub mix64Of : ℕ → ℕ
-mix64Of key = xorshift 33 (times 0xc4ceb9fe1a85ec53 (xorshift 33 (times 0xff51afd7ed558ccd (xorshift 33 key))))
+unfoldable pub mix64_of : ℕ → ℕ
+mix64_of key = xorshift 33 (times 0xc4ceb9fe1a85ec53 (xorshift 33 (times 0xff51afd7ed558ccd (xorshift 33 key))))
 
 -- the seed is added first, modulo 2 ^ 64
-unfoldable pub hashOf : (key seed : ℕ) → ℕ
-hashOf key seed = mix64Of ((key + seed) % 2 ^ 64)
+unfoldable pub hash_of : (key seed : ℕ) → ℕ
+hash_of key seed = mix64_of ((key + seed) % 2 ^ 64)

@@ -12,9 +12,9 @@ state_of zero = 1
 state_of (suc i) = (state_of i + increment) % 2 ^ 64
 
 -- what is put out at a state
-unfoldable pub outputOf : ℕ → ℕ
-outputOf state = xorshift 31 (times 0x94d049bb133111eb (xorshift 27 (times 0xbf58476d1ce4e5b9 (xorshift 30 state))))
+unfoldable pub output_of : ℕ → ℕ
+output_of state = xorshift 31 (times 0x94d049bb133111eb (xorshift 27 (times 0xbf58476d1ce4e5b9 (xorshift 30 state))))
 
 -- the seed of attempt i is the i-th output
-unfoldable pub seedOf : ℕ → ℕ
-seedOf i = outputOf (state_of i)
+unfoldable pub seed_of : ℕ → ℕ
+seed_of i = output_of (state_of i)

@@ -45,27 +45,27 @@ module _ (e q hash : ℕ) (small : hash < 2 ^ 64) (some : 0 < q) where
   in_reach : (x s : ℕ) → x / L ≡ s → s < q + 2 → x < span + 2 * L
   in_reach x s is reach = subst (λ (n : ℕ). x < n) (add-mul q 2 L) ((div-lt_iff_lt-mul (pow_pos e)).0 (subst⁻¹ (λ (n : ℕ). n < q + 2) is reach))
 
-  second-segment : slot1 hash L (L - 1) span / L ≡ slot0 hash span / L + 1
+  second_segment : slot1 hash L (L - 1) span / L ≡ slot0 hash span / L + 1
   unfolding slot1
-  second-segment = xor_above e (slot0 hash span + L) (bit_and (hash / 2 ^ 18) (L - 1)) (mask_lt (hash / 2 ^ 18) e) ∙ add-div_right (slot0 hash span) (pow_pos e)
+  second_segment = xor_above e (slot0 hash span + L) (bit_and (hash / 2 ^ 18) (L - 1)) (mask_lt (hash / 2 ^ 18) e) ∙ add-div_right (slot0 hash span) (pow_pos e)
 
-  third-segment : slot2 hash L (L - 1) span / L ≡ slot0 hash span / L + 2
+  third_segment : slot2 hash L (L - 1) span / L ≡ slot0 hash span / L + 2
   unfolding slot2
-  third-segment = xor_above e (slot0 hash span + 2 * L) (bit_and hash (L - 1)) (mask_lt hash e) ∙ add-mul-div_right (slot0 hash span) 2 (pow_pos e)
+  third_segment = xor_above e (slot0 hash span + 2 * L) (bit_and hash (L - 1)) (mask_lt hash e) ∙ add-mul-div_right (slot0 hash span) 2 (pow_pos e)
 
   pub spread : Spread L span (slot0 hash span) (slot1 hash L (L - 1) span) (slot2 hash L (L - 1) span)
   spread =
       record {
-        segment1 = second-segment;
-        segment2 = third-segment;
+        segment1 = second_segment;
+        segment2 = third_segment;
         below0 = first_below;
-        below1 = in_reach _ _ second-segment (omega (arith, first-segment));
-        below2 = in_reach _ _ third-segment (omega (arith, first-segment));
+        below1 = in_reach _ _ second_segment (omega (arith, first-segment));
+        below2 = in_reach _ _ third_segment (omega (arith, first-segment));
       }
 
 -- slots in three segments are three slots
-pub spread-apart : {L span h0 h1 h2 : ℕ} → Spread L span h0 h1 h2 → (h0 ≢ h1) × (h0 ≢ h2) × (h1 ≢ h2)
-spread-apart {L} s = (
+pub spread_apart : {L span h0 h1 h2 : ℕ} → Spread L span h0 h1 h2 → (h0 ≢ h1) × (h0 ≢ h2) × (h1 ≢ h2)
+spread_apart {L} s = (
   λ e. omega (arith, s.segment1, ap (λ (x : ℕ). x / L) e),
   λ e. omega (arith, s.segment2, ap (λ (x : ℕ). x / L) e),
   λ e. omega (arith, s.segment1, s.segment2, ap (λ (x : ℕ). x / L) e),

@@ -6,41 +6,41 @@ use Rattle.words.specs.Low.{low}
 use Rattle.answers.specs.Answers.{gives, outcome}
 use Rattle.descriptor.specs.declared.Descriptor.{Descriptor}
 use Rattle.fuse.specs.Memory.{Memory}
-use Rattle.fuse.specs.Build.{buildOf, attemptOf}
-use Rattle.fuse.specs.Query.{containsOf}
+use Rattle.fuse.specs.Build.{build_of, attempt_of}
+use Rattle.fuse.specs.Query.{contains_of}
 use Rattle.fuse.specs.SameLengths.{SameLengths}
 use Rattle.fuse.specs.Narrow.{NarrowerList}
-use Rattle.fuse.specs.Widths.{build-narrower, attempt-narrower}
+use Rattle.fuse.specs.Widths.{build_narrower, attempt_narrower}
 use Rattle.plan.specs.declared.BuildAnswer.{BuildAnswer}
 use Rattle.plan.specs.declared.BuildAnswer.TheVariants.{Built}
 use Rattle.plan.specs.Paper.{paper}
-use Rattle.plan.specs.OneAnswer.{one-reading}
+use Rattle.plan.specs.OneAnswer.{one_reading}
 
 pub record BesideEight (r8 r16 : BuildAnswer) (after8 after16 : Memory) : Type 0 where
   -- the same refusal, or the same descriptor, A and attempt number
   pub same_answer : r8 ≡ r16
   -- the 16-bit fingerprints modulo 256 are the 8-bit ones
-  pub modulo-256 : (d : Descriptor) (slots attempt : ℕ) → r16 ≡ Built d slots attempt
+  pub modulo_256 : (d : Descriptor) (slots attempt : ℕ) → r16 ≡ Built d slots attempt
       → map (λ (x : ℕ). x % 256) (take slots after16.fingerprints) ≡ take slots after8.fingerprints
   -- a key that the 16-bit list says yes to gets a yes of the 8-bit list: no needless flush is new
-  pub no-new-yes : (d : Descriptor) (slots attempt key : ℕ) → r16 ≡ Built d slots attempt
-      → containsOf 16 d (take slots after16.fingerprints) key ≡ gives true → containsOf 8 d (take slots after8.fingerprints) key ≡ gives true
+  pub no_new_yes : (d : Descriptor) (slots attempt key : ℕ) → r16 ≡ Built d slots attempt
+      → contains_of 16 d (take slots after16.fingerprints) key ≡ gives true → contains_of 8 d (take slots after8.fingerprints) key ≡ gives true
 
 beside : (r8 r16 : BuildAnswer) (after8 after16 : Memory) → NarrowerList 8 16 (outcome (paper r8) after8) (outcome (paper r16) after16)
     → BesideEight r8 r16 after8 after16
 unfolding low
 beside r8 r16 after8 after16 lists =
     record {
-      same_answer = one-reading r8 r16 lists.same_answer;
-      modulo-256 = λ d slots attempt e. lists.fingerprints-modulo _ (ap paper e);
-      no-new-yes = λ d slots attempt key e. lists.yes-of-both _ (ap paper e) key;
+      same_answer = one_reading r8 r16 lists.same_answer;
+      modulo_256 = λ d slots attempt e. lists.fingerprints_modulo _ (ap paper e);
+      no_new_yes = λ d slots attempt key e. lists.yes_of_both _ (ap paper e) key;
     }
 
 module _ (keys : List ℕ) {m8 m16 : Memory} (lengths : SameLengths m8 m16) (r8 r16 : BuildAnswer) (after8 after16 : Memory) where
-  pub build-beside-eight : (limit : ℕ) → outcome (paper r8) after8 ≡ buildOf 8 keys limit m8 → outcome (paper r16) after16 ≡ buildOf 16 keys limit m16
+  pub build_beside_eight : (limit : ℕ) → outcome (paper r8) after8 ≡ build_of 8 keys limit m8 → outcome (paper r16) after16 ≡ build_of 16 keys limit m16
       → BesideEight r8 r16 after8 after16
-  build-beside-eight limit p q = beside r8 r16 after8 after16 (build-narrower (omega arith) keys lengths limit p q)
+  build_beside_eight limit p q = beside r8 r16 after8 after16 (build_narrower (omega arith) keys lengths limit p q)
 
-  pub attempt-beside-eight : (number : ℕ) → outcome (paper r8) after8 ≡ attemptOf 8 keys number m8
-      → outcome (paper r16) after16 ≡ attemptOf 16 keys number m16 → BesideEight r8 r16 after8 after16
-  attempt-beside-eight number p q = beside r8 r16 after8 after16 (attempt-narrower (omega arith) keys lengths number p q)
+  pub attempt_beside_eight : (number : ℕ) → outcome (paper r8) after8 ≡ attempt_of 8 keys number m8
+      → outcome (paper r16) after16 ≡ attempt_of 16 keys number m16 → BesideEight r8 r16 after8 after16
+  attempt_beside_eight number p q = beside r8 r16 after8 after16 (attempt_narrower (omega arith) keys lengths number p q)

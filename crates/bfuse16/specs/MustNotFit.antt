@@ -6,8 +6,8 @@ use Rattle.plan.specs.MustNotFit as plan
 use Rattle.plan.specs.SmallLists.{built}
 use Rattle.query.specs.MustNotFit as query
 
-pub build-must-not-fit : (program : plan.Program) → plan.Fits 16 program → plan.MustNotFit program
-build-must-not-fit = plan.must-not-fit built.1 (λ none. omega arith)
+pub build_must_not_fit : (program : plan.Program) → plan.Fits 16 program → plan.MustNotFit program
+build_must_not_fit = plan.must_not_fit built.1 (λ none. omega arith)
 
-pub query-must-not-fit : (program : query.Program) → query.Fits 16 program → query.MustNotFit program
-query-must-not-fit = query.must-not-fit (query.asked).1
+pub query_must_not_fit : (program : query.Program) → query.Fits 16 program → query.MustNotFit program
+query_must_not_fit = query.must_not_fit (query.asked).1

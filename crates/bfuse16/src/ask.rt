@@ -1,12 +1,12 @@
 // The query of 16-bit fingerprints, in the numbers that a C program is told.
 ghost use Rattle.std.specs.Prelude.{◌≡◌};
-ghost use Rattle.fuse.specs.Query.{containsOf, told};
+ghost use Rattle.fuse.specs.Query.{contains_of, told};
 
 use descriptor::Descriptor;
 
 // For speed, numbers in and out, and all checks before the arithmetic.
 pub fn ask(d: Descriptor, fingerprints: &[u16], key: u64) -> u32
-    ensures { result ≡ told (containsOf 16 d fingerprints.now key) }
+    ensures { result ≡ told (contains_of 16 d fingerprints.now key) }
 {
     let segment = d.segment_length;
     let mask = d.segment_length_mask;

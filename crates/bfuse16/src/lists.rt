@@ -2,7 +2,7 @@
 ghost use Rattle.std.specs.Prelude.{◌≡◌};
 ghost use Rattle.answers.specs.Answers.{outcome};
 ghost use Rattle.fuse.specs.Memory.{memory};
-ghost use Rattle.fuse.specs.Build.{buildOf, attemptOf};
+ghost use Rattle.fuse.specs.Build.{build_of, attempt_of};
 ghost use Rattle.fuse.specs.Demand.{Demand3};
 ghost use Rattle.fuse.specs.Leaves.{Leaves};
 ghost use Rattle.plan.specs.Paper.{paper};
@@ -22,7 +22,7 @@ pub fn build(
     order: &mut [u64],
     starts: &mut [u32],
 ) -> BuildAnswer
-    ensures starts_after { outcome (paper result) (memory fingerprints.new lone.new counts.new sums.new positions.new order.new starts.new) ≡ buildOf 16 keys.now limit (memory fingerprints.old lone.old counts.old sums.old positions.old order.old starts.old) }
+    ensures starts_after { outcome (paper result) (memory fingerprints.new lone.new counts.new sums.new positions.new order.new starts.new) ≡ build_of 16 keys.now limit (memory fingerprints.old lone.old counts.old sums.old positions.old order.old starts.old) }
     ensures demand3 { Demand3 16 keys.now 1 limit (memory fingerprints.old lone.old counts.old sums.old positions.old order.old starts.old) (paper result) fingerprints.new }
     ensures leaves { Leaves 16 keys.now (memory fingerprints.old lone.old counts.old sums.old positions.old order.old starts.old) (paper result) (memory fingerprints.new lone.new counts.new sums.new positions.new order.new starts.new) }
 {
@@ -45,7 +45,7 @@ pub fn attempt(
     order: &mut [u64],
     starts: &mut [u32],
 ) -> BuildAnswer
-    ensures starts_after { outcome (paper result) (memory fingerprints.new lone.new counts.new sums.new positions.new order.new starts.new) ≡ attemptOf 16 keys.now number (memory fingerprints.old lone.old counts.old sums.old positions.old order.old starts.old) }
+    ensures starts_after { outcome (paper result) (memory fingerprints.new lone.new counts.new sums.new positions.new order.new starts.new) ≡ attempt_of 16 keys.now number (memory fingerprints.old lone.old counts.old sums.old positions.old order.old starts.old) }
     ensures demand3 { Demand3 16 keys.now number number (memory fingerprints.old lone.old counts.old sums.old positions.old order.old starts.old) (paper result) fingerprints.new }
     ensures leaves { Leaves 16 keys.now (memory fingerprints.old lone.old counts.old sums.old positions.old order.old starts.old) (paper result) (memory fingerprints.new lone.new counts.new sums.new positions.new order.new starts.new) }
 {

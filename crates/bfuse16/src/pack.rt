@@ -3,7 +3,7 @@ ghost use Rattle.std.specs.Prelude.{◌≡◌, [], length};
 ghost use Rattle.answers.specs.Answers.{outcome};
 ghost use Rattle.fuse.specs.Memory.{memory};
 ghost use Rattle.plan.specs.Paper.{paper};
-ghost use Rattle.plan.specs.Plans.{taken, zeros, CanFillFrom, carriedOut, CanCarryOut};
+ghost use Rattle.plan.specs.Plans.{taken, zeros, CanFillFrom, carried_out, CanCarryOut};
 ghost use Rattle.plan.specs.Written.{Written};
 
 use answers::Refusal;
@@ -48,7 +48,7 @@ pub fn carry_out(
     order: &mut [u64],
 ) -> BuildAnswer
     requires { CanCarryOut n (length fingerprints.old) plan (taken positions.old order.old) }
-    ensures { outcome (paper result) (memory fingerprints.new [] [] [] positions.new order.new []) ≡ carriedOut 16 n plan fingerprints.old (taken positions.old order.old) }
+    ensures { outcome (paper result) (memory fingerprints.new [] [] [] positions.new order.new []) ≡ carried_out 16 n plan fingerprints.old (taken positions.old order.old) }
 {
     match plan {
         Plan::Refused(why) => BuildAnswer::Refused(why),

@@ -4,5 +4,5 @@ use Rattle.std.proofs.Common.{arith}
 use Rattle.plan.specs.MustNotFit as plan
 use Rattle.plan.specs.SmallLists.{built}
 
-pub must-not-fit : (program : plan.Program) → plan.Fits 8 program → plan.MustNotFit program
-must-not-fit = plan.must-not-fit built.0 (λ none. omega arith)
+pub must_not_fit : (program : plan.Program) → plan.Fits 8 program → plan.MustNotFit program
+must_not_fit = plan.must_not_fit built.0 (λ none. omega arith)

@@ -6,32 +6,32 @@ use borrow.Author.Tests.{le-ltb, lt-ltb}
 use lib.ListN.{length, drop}
 use Rattle.answers.specs.Answers.{Answer, gives, Outcome, outcome}
 use Rattle.answers.specs.Checks.{Done, done}
-use Rattle.answers.specs.Passed.{both-pass}
+use Rattle.answers.specs.Passed.{both_pass}
 use Rattle.descriptor.specs.declared.Descriptor.{Descriptor}
-use Rattle.descriptor.specs.Descriptor.{checkOf, descriptorSize, encode, writeOf}
+use Rattle.descriptor.specs.Descriptor.{check_of, descriptor_size, encode, write_of}
 use Rattle.fuse.specs.Memory.{Memory}
-use Rattle.fuse.specs.Build.{Success, buildOf}
+use Rattle.fuse.specs.Build.{Success, build_of}
 use Rattle.fuse.specs.Demand.{Demand3}
-use Rattle.c_api.specs.BuildTold.{buildTold, refusalCode, toldBuilt, toldBuild}
+use Rattle.c_api.specs.BuildTold.{build_told, refusal_code, told_built, told_build}
 use Rattle.c_api.specs.Telling.{CanTell, Tells}
 
 -- an accepted descriptor is written
-pub written : (d : Descriptor) (room : List ℕ) {after : List ℕ} {answer : Answer Done} → checkOf d ≡ gives done → descriptorSize ≤ length room
-    → outcome answer after ≡ writeOf d room → after ≡ encode d ++ drop descriptorSize room
+pub written : (d : Descriptor) (room : List ℕ) {after : List ℕ} {answer : Answer Done} → check_of d ≡ gives done → descriptor_size ≤ length room
+    → outcome answer after ≡ write_of d room → after ≡ encode d ++ drop descriptor_size room
 written d room good long e =
-    let stored : writeOf d room ≡ outcome (gives done) (encode d ++ drop descriptorSize room) = simp (le-ltb (length room) descriptorSize long, good) in
+    let stored : write_of d room ≡ outcome (gives done) (encode d ++ drop descriptor_size room) = simp (le-ltb (length room) descriptor_size long, good) in
     ap (λ (o : Outcome Done (List ℕ)). o.leaves) (e ∙ stored)
 
 module _ (w : ℕ) (keys : List ℕ) (limit : ℕ) (before : Memory) (room : List ℕ) where
   -- a short room
-  pub short-told : length room < descriptorSize → buildTold (refusalCode 7) before room ≡ toldBuild w keys limit before room
-  short-told short = simp (lt-ltb (length room) descriptorSize short)
+  pub short_told : length room < descriptor_size → build_told (refusal_code 7) before room ≡ told_build w keys limit before room
+  short_told short = simp (lt-ltb (length room) descriptor_size short)
 
-  module _ (long : descriptorSize ≤ length room) {answer : Answer Success} where
+  module _ (long : descriptor_size ≤ length room) {answer : Answer Success} where
     -- the descriptor of a list that was built is accepted
-    pub can-tell : {fingerprints : List ℕ} → Demand3 w keys 1 limit before answer fingerprints → CanTell answer room
-    can-tell demanded = record { long = long; accepted = λ s e. (both-pass (checkOf s.descriptor) _ done (demanded.accepted s e)).0 }
+    pub can_tell : {fingerprints : List ℕ} → Demand3 w keys 1 limit before answer fingerprints → CanTell answer room
+    can_tell demanded = record { long = long; accepted = λ s e. (both_pass (check_of s.descriptor) _ done (demanded.accepted s e)).0 }
 
-    pub told-build : {after : Memory} {code : ℕ} {room' : List ℕ} → outcome answer after ≡ buildOf w keys limit before → Tells answer room code room'
-        → buildTold code after room' ≡ toldBuild w keys limit before room
-    told-build {after} e tells = tells after ∙ simp (le-ltb (length room) descriptorSize long) (ap (λ (o : Outcome Success Memory). toldBuilt o.answer o.leaves room) e)
+    pub told_build_lem : {after : Memory} {code : ℕ} {room' : List ℕ} → outcome answer after ≡ build_of w keys limit before → Tells answer room code room'
+        → build_told code after room' ≡ told_build w keys limit before room
+    told_build_lem {after} e tells = tells after ∙ simp (le-ltb (length room) descriptor_size long) (ap (λ (o : Outcome Success Memory). told_built o.answer o.leaves room) e)

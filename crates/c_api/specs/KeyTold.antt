@@ -7,10 +7,10 @@ pub record KeyTold : Type 0 where
   pub code : ℕ
   pub key : ℕ
 
-abbrev pub keyTold : ℕ → ℕ → KeyTold
-keyTold code key = record { code = code; key = key }
+abbrev pub key_told : ℕ → ℕ → KeyTold
+key_told code key = record { code = code; key = key }
 
 -- 0 and the key; or 16 plus the refusal's number, and the key as it was
-abbrev pub toldKey : Answer ℕ → (before : ℕ) → KeyTold
-toldKey (gives key) before = keyTold 0 key
-toldKey (refuses number) before = keyTold (code_of number) before
+abbrev pub told_key : Answer ℕ → (before : ℕ) → KeyTold
+told_key (gives key) before = key_told 0 key
+told_key (refuses number) before = key_told (code_of number) before

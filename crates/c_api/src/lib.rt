@@ -1,10 +1,10 @@
 // The calls of a C program. A slice crosses as a pointer and a count of elements; each call answers with a number.
 ghost use Rattle.std.specs.Prelude.{◌≡◌};
-ghost use Rattle.fuse.specs.Query.{told, containsBytesOf};
-ghost use Rattle.flush.specs.FlushKey.{flushKeyOf};
-ghost use Rattle.c_api.specs.KeyTold.{keyTold, toldKey};
+ghost use Rattle.fuse.specs.Query.{told, contains_bytes_of};
+ghost use Rattle.flush.specs.FlushKey.{flush_key_of};
+ghost use Rattle.c_api.specs.KeyTold.{key_told, told_key};
 ghost use Rattle.fuse.specs.Memory.{memory};
-ghost use Rattle.c_api.specs.BuildTold.{buildTold, toldBuild};
+ghost use Rattle.c_api.specs.BuildTold.{build_told, told_build};
 ghost use Rattle.c_api.specs.Telling.{CanTell, Tells};
 ghost use Rattle.plan.specs.Paper.{paper};
 
@@ -19,7 +19,7 @@ const ROOM_REFUSED: u32 = BUILD_REFUSED + 7;
 
 #[unsafe(no_mangle)]
 pub extern "C" fn gp_fuse8_contains(descriptor: &[u8], fingerprints: &[u8], key: u64) -> u32
-    ensures { result ≡ told (containsBytesOf 8 descriptor.now fingerprints.now key) }
+    ensures { result ≡ told (contains_bytes_of 8 descriptor.now fingerprints.now key) }
 {
     contains8::contains_told(descriptor, fingerprints, key)
 }
@@ -27,7 +27,7 @@ pub extern "C" fn gp_fuse8_contains(descriptor: &[u8], fingerprints: &[u8], key:
 // The same of fingerprints of 16 bits.
 #[unsafe(no_mangle)]
 pub extern "C" fn gp_fuse16_contains(descriptor: &[u8], fingerprints: &[u16], key: u64) -> u32
-    ensures { result ≡ told (containsBytesOf 16 descriptor.now fingerprints.now key) }
+    ensures { result ≡ told (contains_bytes_of 16 descriptor.now fingerprints.now key) }
 {
     bfuse16::contains_told(descriptor, fingerprints, key)
 }
@@ -35,7 +35,7 @@ pub extern "C" fn gp_fuse16_contains(descriptor: &[u8], fingerprints: &[u16], ke
 // Writes the key of a flush and answers 0; a refusal leaves `key` as it was.
 #[unsafe(no_mangle)]
 pub extern "C" fn gp_flush_key(unit: u16, valve: u8, seconds: i64, key: &mut u64) -> u32
-    ensures { keyTold result key.new ≡ toldKey (flushKeyOf unit valve seconds) key.old }
+    ensures { key_told result key.new ≡ told_key (flush_key_of unit valve seconds) key.old }
 {
     let answer = flush::flush_key(unit, valve, seconds);
     match answer {
@@ -75,7 +75,7 @@ pub extern "C" fn gp_fuse8_build(
     starts: &mut [u32],
     descriptor: &mut [u8],
 ) -> u32
-    ensures { buildTold result (memory fingerprints.new lone.new counts.new sums.new positions.new order.new starts.new) descriptor.new ≡ toldBuild 8 keys.now limit (memory fingerprints.old lone.old counts.old sums.old positions.old order.old starts.old) descriptor.old }
+    ensures { build_told result (memory fingerprints.new lone.new counts.new sums.new positions.new order.new starts.new) descriptor.new ≡ told_build 8 keys.now limit (memory fingerprints.old lone.old counts.old sums.old positions.old order.old starts.old) descriptor.old }
 {
     if descriptor.len() < DESCRIPTOR_SIZE {
         return ROOM_REFUSED;
@@ -108,7 +108,7 @@ pub extern "C" fn gp_fuse16_build(
     starts: &mut [u32],
     descriptor: &mut [u8],
 ) -> u32
-    ensures { buildTold result (memory fingerprints.new lone.new counts.new sums.new positions.new order.new starts.new) descriptor.new ≡ toldBuild 16 keys.now limit (memory fingerprints.old lone.old counts.old sums.old positions.old order.old starts.old) descriptor.old }
+    ensures { build_told result (memory fingerprints.new lone.new counts.new sums.new positions.new order.new starts.new) descriptor.new ≡ told_build 16 keys.now limit (memory fingerprints.old lone.old counts.old sums.old positions.old order.old starts.old) descriptor.old }
 {
     if descriptor.len() < DESCRIPTOR_SIZE {
         return ROOM_REFUSED;

@@ -11,7 +11,7 @@ use native.Mathlib.Omega.{arith}
 use borrow.Author.Tests.{leb-true, leb-false}
 use lib.Dec.{leb, ltb}
 use lib.Pow.{pow-add}
-use Rattle.capacity.specs.Powers.{pow-one, pow-mul, pow-swap}
+use Rattle.capacity.specs.Powers.{pow_one, pow_mul, pow_swap}
 
 -- low × 10^tens and high × 10^tens
 pub record Rounded : Type 0 where
@@ -47,36 +47,36 @@ pub record Between (r : Rounded) (x : ℕ) : Type 0 where
 
 -- ---- one fourth power
 
-ten-positive : (k : ℕ) → 0 < 10 ^ k
-ten-positive k = one-le-pow k 10 (zero-lt-suc 9)
+ten_positive : (k : ℕ) → 0 < 10 ^ k
+ten_positive k = one-le-pow k 10 (zero-lt-suc 9)
 
 squared : (m e : ℕ) → (m * 10 ^ e) * (m * 10 ^ e) ≡ m * m * 10 ^ (e + e)
 squared m e = rw (pow-add 10 e e) (mul-mul-mul_comm m (10 ^ e) m (10 ^ e))
 
-square-down : (m e x : ℕ) → m * 10 ^ e ≤ x → m * m * 10 ^ (e + e) ≤ x * x
-square-down m e x h = subst (λ (y : ℕ). y ≤ x * x) (squared m e) (mul-le-mul h h)
+square_down : (m e x : ℕ) → m * 10 ^ e ≤ x → m * m * 10 ^ (e + e) ≤ x * x
+square_down m e x h = subst (λ (y : ℕ). y ≤ x * x) (squared m e) (mul-le-mul h h)
 
-square-up : (m e x : ℕ) → x ≤ m * 10 ^ e → x * x ≤ m * m * 10 ^ (e + e)
-square-up m e x h = subst (λ (y : ℕ). x * x ≤ y) (squared m e) (mul-le-mul h h)
+square_up : (m e x : ℕ) → x ≤ m * 10 ^ e → x * x ≤ m * m * 10 ^ (e + e)
+square_up m e x h = subst (λ (y : ℕ). x * x ≤ y) (squared m e) (mul-le-mul h h)
 
 -- q with j more zeros
 zeros : (q e j : ℕ) → q * 10 ^ (e + j) ≡ q * 10 ^ j * 10 ^ e
 zeros q e j = ap (λ (y : ℕ). q * y) (pow-add 10 e j ∙ mul_comm (10 ^ e) (10 ^ j)) ∙ sym (mul_assoc q (10 ^ j) (10 ^ e))
 
-drop-down : (q e j x : ℕ) → q * 10 ^ e ≤ x → q / 10 ^ j * 10 ^ (e + j) ≤ x
-drop-down q e j x h = rw (zeros (q / 10 ^ j) e j) (le_trans (mul-le-mul_right (10 ^ e) (div-mul-le_self q (10 ^ j))) h)
+drop_down : (q e j x : ℕ) → q * 10 ^ e ≤ x → q / 10 ^ j * 10 ^ (e + j) ≤ x
+drop_down q e j x h = rw (zeros (q / 10 ^ j) e j) (le_trans (mul-le-mul_right (10 ^ e) (div-mul-le_self q (10 ^ j))) h)
 
-drop-up : (q e j x : ℕ) → x ≤ q * 10 ^ e → x ≤ (q / 10 ^ j + 1) * 10 ^ (e + j)
-drop-up q e j x h = rw (zeros (q / 10 ^ j + 1) e j) (le_trans h (mul-le-mul_right (10 ^ e) up))
+drop_up : (q e j x : ℕ) → x ≤ q * 10 ^ e → x ≤ (q / 10 ^ j + 1) * 10 ^ (e + j)
+drop_up q e j x h = rw (zeros (q / 10 ^ j + 1) e j) (le_trans h (mul-le-mul_right (10 ^ e) up))
   where
     up : q ≤ (q / 10 ^ j + 1) * 10 ^ j
-    up = rw (mul_comm (q / 10 ^ j + 1) (10 ^ j)) (le_of_lt (lt-mul-div-succ q (ten-positive j)))
+    up = rw (mul_comm (q / 10 ^ j + 1) (10 ^ j)) (le_of_lt (lt-mul-div-succ q (ten_positive j)))
 
-fourth-power : (x k : ℕ) → (x * x * (x * x)) ^ (4 ^ k) ≡ x ^ (4 ^ suc k)
-fourth-power x k = ap (λ (y : ℕ). y ^ (4 ^ k)) four ∙ sym (pow-mul x 4 (4 ^ k)) ∙ ap (λ (y : ℕ). x ^ y) (sym (pow-succ' 4 k))
+fourth_power : (x k : ℕ) → (x * x * (x * x)) ^ (4 ^ k) ≡ x ^ (4 ^ suc k)
+fourth_power x k = ap (λ (y : ℕ). y ^ (4 ^ k)) four ∙ sym (pow_mul x 4 (4 ^ k)) ∙ ap (λ (y : ℕ). x ^ y) (sym (pow-succ' 4 k))
   where
     two : x * x ≡ x ^ 2
-    two = ap (λ (y : ℕ). y * x) (sym (pow-one x)) ∙ sym (pow-suc x 1)
+    two = ap (λ (y : ℕ). y * x) (sym (pow_one x)) ∙ sym (pow-suc x 1)
 
     four : x * x * (x * x) ≡ x ^ 4
     four = ap (λ (y : ℕ). y * y) two ∙ sym (pow-add x 2 2)
@@ -85,14 +85,14 @@ fourth-power x k = ap (λ (y : ℕ). y ^ (4 ^ k)) four ∙ sym (pow-mul x 4 (4 ^
 
 pub between : (k low high tens x : ℕ) → low * 10 ^ tens ≤ x → x ≤ high * 10 ^ tens → Between (rounded k low high tens) (x ^ (4 ^ k))
 unfolding rounded
-between zero low high tens x from to = record { from = rw (pow-one x) from; to = rw (pow-one x) to }
+between zero low high tens x from to = record { from = rw (pow_one x) from; to = rw (pow_one x) to }
 between (suc k) low high tens x from to =
     let j = dropped (high * high * (high * high)) in
     let e = tens + tens in
     let y = x * x * (x * x) in
-    let above = drop-down (low * low * (low * low)) (e + e) j y (square-down (low * low) e (x * x) (square-down low tens x from)) in
-    let below = drop-up (high * high * (high * high)) (e + e) j y (square-up (high * high) e (x * x) (square-up high tens x to)) in
-    rw (← fourth-power) (between k _ _ _ y above below)
+    let above = drop_down (low * low * (low * low)) (e + e) j y (square_down (low * low) e (x * x) (square_down low tens x from)) in
+    let below = drop_up (high * high * (high * high)) (e + e) j y (square_up (high * high) e (x * x) (square_up high tens x to)) in
+    rw (← fourth_power) (between k _ _ _ y above below)
 
 -- ---- what a bound of n^s says of a smaller power
 
@@ -103,18 +103,18 @@ root x y s some h =
       | false ↦ λ e. absurd (lt_irrefl _ (lt_of_lt_of_le (pow-lt-pow_left (leb-false x y e) (λ z. lt_irrefl 0 (subst (λ (k : ℕ). 0 < k) z some))) h))
     ] refl
 
-ten-mono : {i j : ℕ} → i ≤ j → 10 ^ i ≤ 10 ^ j
-ten-mono h = pow-le-pow_right (zero-lt-suc 9) h
+ten_mono : {i j : ℕ} → i ≤ j → 10 ^ i ≤ 10 ^ j
+ten_mono h = pow-le-pow_right (zero-lt-suc 9) h
 
 pub power_below : (n a u t s : ℕ) → 0 < s → n ^ s ≤ 10 ^ u → a * u ≤ t * s → n ^ a ≤ 10 ^ t
 power_below n a u t s some h l =
     root (n ^ a) (10 ^ t) s some
-    (rw (pow-swap n a s, ← pow-mul 10 t s) (le_trans (pow-le-pow_left h a) (rw (← pow-mul 10 u a, mul_comm u a) (ten-mono l))))
+    (rw (pow_swap n a s, ← pow_mul 10 t s) (le_trans (pow-le-pow_left h a) (rw (← pow_mul 10 u a, mul_comm u a) (ten_mono l))))
 
-pub power-above : (n a u t s : ℕ) → 10 ^ u ≤ n ^ s → t * s < a * u → 10 ^ t < n ^ a
-power-above n a u t s h l =
-    lt_of_not-le (λ q. lt_irrefl (10 ^ (t * s)) (omega (arith, ten-positive (t * s), pow-suc 10 (t * s), le_trans (ten-mono l) (chain q))))
+pub power_above_lem : (n a u t s : ℕ) → 10 ^ u ≤ n ^ s → t * s < a * u → 10 ^ t < n ^ a
+power_above_lem n a u t s h l =
+    lt_of_not-le (λ q. lt_irrefl (10 ^ (t * s)) (omega (arith, ten_positive (t * s), pow-suc 10 (t * s), le_trans (ten_mono l) (chain q))))
   where
     chain : n ^ a ≤ 10 ^ t → 10 ^ (a * u) ≤ 10 ^ (t * s)
     chain q =
-        rw (mul_comm a u, pow-mul 10 u a) (le_trans (pow-le-pow_left h a) (rw (pow-swap n s a, pow-mul 10 t s) (pow-le-pow_left q s)))
+        rw (mul_comm a u, pow_mul 10 u a) (le_trans (pow-le-pow_left h a) (rw (pow_swap n s a, pow_mul 10 t s) (pow-le-pow_left q s)))

@@ -3,11 +3,11 @@
 use Rattle.std.specs.Prelude.{◌≡◌, ℕ, zero, suc, ◌+◌, ◌-◌, ◌*◌, ◌^◌, ◌≤◌, Bool, true, false, cond, ◌&&◌, T, leb, ltb}
 
 -- the most keys, and the capacity there, which no smaller size exceeds
-abbrev pub maxKeys : ℕ
-maxKeys = 8192
+abbrev pub max_keys : ℕ
+max_keys = 8192
 
-abbrev pub maxCapacity : ℕ
-maxCapacity = 10308
+abbrev pub max_capacity : ℕ
+max_capacity = 10308
 
 -- The exponents of the rule, 8c - 7n - 4 and 8c - 7n + 4. One below zero counts as 0, which changes no answer: a power of n below zero is,
 -- as n^0, at most 1, and so at most 10^(12n).
@@ -27,11 +27,11 @@ first passes zero c = c
 first passes (suc k) c = elim (passes c) [ true ↦ c | false ↦ first passes k (suc c) ]
 
 -- 0 for n below 2, and otherwise the number that obeys the rule. (No more than one does, and it is below 8n: OneCapacity.antt.)
-unfoldable pub capacityOf : ℕ → ℕ
-capacityOf n = cond (ltb n 2) 0 (first (obeys n) (8 * n) 0)
+unfoldable pub capacity_of : ℕ → ℕ
+capacity_of n = cond (ltb n 2) 0 (first (obeys n) (8 * n) 0)
 
 -- what is promised of the capacity c of n keys
 pub record Capacity (n c : ℕ) : Type 0 where
-  pub is : c ≡ capacityOf n
+  pub is : c ≡ capacity_of n
   pub rule : 2 ≤ n → T (obeys n c)
-  pub small : c ≤ maxCapacity
+  pub small : c ≤ max_capacity

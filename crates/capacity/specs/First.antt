@@ -5,24 +5,24 @@ use Rattle.std.proofs.Common.{sym, subst, ⊎_elim, eq-or-lt_of_le, le_refl, ari
 use Rattle.capacity.specs.Capacity.{first}
 
 module _ (passes : ℕ → Bool) where
-  pub first-from : (k c : ℕ) → c ≤ first passes k c
-  first-from zero c = le_refl c
-  first-from (suc k) c =
+  pub first_from : (k c : ℕ) → c ≤ first passes k c
+  first_from zero c = le_refl c
+  first_from (suc k) c =
       elim (passes c) as (λ b. c ≤ (elim b as (λ _. ℕ) [ true ↦ c | false ↦ first passes k (suc c) ])) [
         | true ↦ le_refl c
-        | false ↦ omega (arith, first-from k (suc c))
+        | false ↦ omega (arith, first_from k (suc c))
       ]
 
   -- a number d that passes, where c does not, is past c
   past : {c d : ℕ} → c ≤ d → passes c ≡ false → T (passes d) → suc c ≤ d
   past from e t = ⊎_elim (λ q. absurd (subst T e (subst (λ (x : ℕ). T (passes x)) (sym q) t))) (λ s. s) (eq-or-lt_of_le from)
 
-  pub first-least : (k c d : ℕ) → c ≤ d → T (passes d) → first passes k c ≤ d
-  first-least zero c d from t = from
-  first-least (suc k) c d from t =
+  pub first_least : (k c d : ℕ) → c ≤ d → T (passes d) → first passes k c ≤ d
+  first_least zero c d from t = from
+  first_least (suc k) c d from t =
       elim (passes c) as (λ b. passes c ≡ b → (elim b as (λ _. ℕ) [ true ↦ c | false ↦ first passes k (suc c) ]) ≤ d) [
         | true ↦ λ e. from
-        | false ↦ λ e. first-least k (suc c) d (past from e t) t
+        | false ↦ λ e. first_least k (suc c) d (past from e t) t
       ] refl
 
   pub first_passes : (k c d : ℕ) → c ≤ d → d < c + k → T (passes d) → T (passes (first passes k c))

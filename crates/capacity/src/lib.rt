@@ -1,6 +1,6 @@
 // The capacity of a filter, from a table of its value at each number of keys.
 ghost use Rattle.std.specs.Prelude.{◌≡◌, ◌≤◌};
-ghost use Rattle.capacity.specs.Capacity.{Capacity, maxKeys};
+ghost use Rattle.capacity.specs.Capacity.{Capacity, max_keys};
 
 mod table;
 
@@ -9,14 +9,14 @@ pub use table::MAX_KEYS;
 
 // The most keys: `MAX_KEYS` is the number that the definitions name.
 pub fn max_keys() -> u32
-    ensures { result ≡ maxKeys }
+    ensures { result ≡ max_keys }
 {
     MAX_KEYS
 }
 
 // The capacity for n keys.
 pub fn capacity(n: u32) -> u32
-    requires { n ≤ maxKeys }
+    requires { n ≤ max_keys }
     ensures { Capacity n result }
 {
     wide(CAPACITIES[n as usize])

@@ -2,15 +2,15 @@
 -- one statement. Assumes nothing.
 use Rattle.std.specs.Prelude.{◌≡◌, refl, List, [], ◌∷◌, ℕ, ◌+◌, ◌-◌, ◌*◌, ◌^◌, ℤ, pos, neg_ℤ}
 use Rattle.arith.specs.Steps.{xorshift, times}
-use Rattle.arith.specs.Murmur3.{mix64Of}
-use Rattle.arith.specs.Fingerprint.{fingerprintOf}
+use Rattle.arith.specs.Murmur3.{mix64_of}
+use Rattle.arith.specs.Fingerprint.{fingerprint_of}
 use Rattle.arith.specs.Slots.{slot0, slot1, slot2, slots_of}
 use Rattle.layout.specs.declared.Layout.{Layout}
 use Rattle.layout.specs.Rows.{Row, laid, rows}
 use Rattle.answers.specs.Answers.{Answer, refuses, gives}
-use Rattle.flush.specs.FlushKey.{hourOf, keyAtHour, flushKeyOf}
-use Rattle.stuck.specs.Stuck.{Slots, everyKey, Stuck, NoneStuck}
-use Rattle.stuck.specs.Cases.{at, C10-holds, C11-holds, C12-holds}
+use Rattle.flush.specs.FlushKey.{hour_of, key_at_hour, flush_key_of}
+use Rattle.stuck.specs.Stuck.{Slots, every_key, Stuck, NoneStuck}
+use Rattle.stuck.specs.Cases.{at, C10_holds, C11_holds, C12_holds}
 
 -- what is asked of the definitions, and the paper's answer
 pub data Case : Type 0 where
@@ -25,13 +25,13 @@ pub data Case : Type 0 where
 
 abbrev pub Holds : Case → Type 0
 Holds (slots hash three) = slots_of hash 4 3 4 ≡ three
-Holds (fingerprint hash f) = fingerprintOf 8 hash ≡ f
-Holds (mix64 key mixed) = mix64Of key ≡ mixed
+Holds (fingerprint hash f) = fingerprint_of 8 hash ≡ f
+Holds (mix64 key mixed) = mix64_of key ≡ mixed
 Holds (row n c plain second) = Row n c plain second
-Holds (stuck keys) = Stuck keys (everyKey keys)
+Holds (stuck keys) = Stuck keys (every_key keys)
 Holds (not_stuck keys) = NoneStuck keys
-Holds (hour seconds h) = hourOf seconds ≡ h
-Holds (flush unit valve seconds answer) = flushKeyOf unit valve seconds ≡ answer
+Holds (hour seconds h) = hour_of seconds ≡ h
+Holds (flush unit valve seconds answer) = flush_key_of unit valve seconds ≡ answer
 
 -- every case of a list holds
 infixr 20 ◌and◌
@@ -70,8 +70,8 @@ table =
     ∷ []
 
 pub cases : All table
-unfolding slot0 slot1 slot2 mix64Of fingerprintOf xorshift times flushKeyOf keyAtHour
+unfolding slot0 slot1 slot2 mix64_of fingerprint_of xorshift times flush_key_of key_at_hour
 cases =
     refl and refl and refl and refl and refl and refl and refl and refl
-    and rows.at-0 and rows.at-2 and rows.at_5 and C10-holds and C11-holds and C12-holds
+    and rows.at_0 and rows.at_2 and rows.at_5 and C10_holds and C11_holds and C12_holds
     and refl and refl and refl and refl and refl and refl and refl and refl and refl and no_more

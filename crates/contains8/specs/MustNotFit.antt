@@ -2,5 +2,5 @@
 -- answers it does not always say yes, nor always no. Assumes nothing.
 use Rattle.query.specs.MustNotFit as query
 
-pub must-not-fit : (program : query.Program) → query.Fits 8 program → query.MustNotFit program
-must-not-fit = query.must-not-fit (query.asked).0
+pub must_not_fit : (program : query.Program) → query.Fits 8 program → query.MustNotFit program
+must_not_fit = query.must_not_fit (query.asked).0

@@ -1,12 +1,12 @@
 -- No other answer of `contains`, `contains_bytes` or `contains_told` fits its promise. Assumes nothing.
-use Rattle.fuse.specs.Query.{containsOf, containsBytesOf}
+use Rattle.fuse.specs.Query.{contains_of, contains_bytes_of}
 use Rattle.query.specs.OneAnswer as query
 
-pub one-contains : query.OneAnswer (containsOf 8)
-one-contains = query.one-contains 8
+pub one_contains : query.OneAnswer (contains_of 8)
+one_contains = query.one_contains 8
 
-pub one-contains-bytes : query.OneAnswer (containsBytesOf 8)
-one-contains-bytes = query.one-contains-bytes 8
+pub one_contains_bytes : query.OneAnswer (contains_bytes_of 8)
+one_contains_bytes = query.one_contains_bytes 8
 
-pub one-contains-told : query.OneTold 8
-one-contains-told = query.one-contains-told 8
+pub one_contains_told : query.OneTold 8
+one_contains_told = query.one_contains_told 8

@@ -1,6 +1,6 @@
 // The query of a list of 8-bit fingerprints: may this key be listed?
 ghost use Rattle.std.specs.Prelude.{◌≡◌};
-ghost use Rattle.fuse.specs.Query.{containsOf, containsBytesOf, told};
+ghost use Rattle.fuse.specs.Query.{contains_of, contains_bytes_of, told};
 ghost use Rattle.query.specs.Paper.{paper};
 
 use answers::Refusal;
@@ -9,7 +9,7 @@ pub use query::ContainsAnswer;
 
 // Asked of the first twenty bytes of a descriptor.
 pub fn contains_bytes(descriptor: &[u8], fingerprints: &[u8], key: u64) -> ContainsAnswer
-    ensures { paper result ≡ containsBytesOf 8 descriptor.now fingerprints.now key }
+    ensures { paper result ≡ contains_bytes_of 8 descriptor.now fingerprints.now key }
 {
     if descriptor.len() < DESCRIPTOR_SIZE {
         return ContainsAnswer::Refused(Refusal::ShortDescriptor);
@@ -20,14 +20,14 @@ pub fn contains_bytes(descriptor: &[u8], fingerprints: &[u8], key: u64) -> Conta
 
 // Asked of the record.
 pub fn contains(d: Descriptor, fingerprints: &[u8], key: u64) -> ContainsAnswer
-    ensures { paper result ≡ containsOf 8 d fingerprints.now key }
+    ensures { paper result ≡ contains_of 8 d fingerprints.now key }
 {
     query::answer(ask(d, fingerprints, key), d)
 }
 
 // What a C program is told: 0 for no, 1 for yes, 16 plus the number of a refusal.
 pub fn contains_told(descriptor: &[u8], fingerprints: &[u8], key: u64) -> u32
-    ensures { result ≡ told (containsBytesOf 8 descriptor.now fingerprints.now key) }
+    ensures { result ≡ told (contains_bytes_of 8 descriptor.now fingerprints.now key) }
 {
     if descriptor.len() < DESCRIPTOR_SIZE {
         return answers::code(Refusal::ShortDescriptor);
@@ -38,7 +38,7 @@ pub fn contains_told(descriptor: &[u8], fingerprints: &[u8], key: u64) -> u32
 
 // The query, in the numbers that a C program is told: for speed, numbers in and out, and all checks before the arithmetic.
 fn ask(d: Descriptor, fingerprints: &[u8], key: u64) -> u32
-    ensures { result ≡ told (containsOf 8 d fingerprints.now key) }
+    ensures { result ≡ told (contains_of 8 d fingerprints.now key) }
 {
     let segment = d.segment_length;
     let mask = d.segment_length_mask;

@@ -4,11 +4,11 @@ use Rattle.std.specs.Prelude.{◌≡◌, refl, Bool, true, false, not, ◌||◌,
 use Rattle.std.proofs.Common.{sym, arith, eq-eqb, ne_eqb, le-ltb, eqb-true, ltb-false}
 use Rattle.std.proofs.lemmas.Bool.{false≢true, eqb-false, not-false}
 use Rattle.answers.specs.Answers.{gives}
-use Rattle.answers.specs.Checks.{done, refuseIf, ◌then◌}
-use Rattle.answers.specs.Passed.{no-fault, passed_first}
+use Rattle.answers.specs.Checks.{done, refuse_if, ◌then◌}
+use Rattle.answers.specs.Passed.{no_fault, passed_first}
 use Rattle.descriptor.specs.declared.Descriptor.{Descriptor}
-use Rattle.descriptor.specs.Descriptor.{isLength, longest, badCount, checkOf}
-use Rattle.descriptor.specs.Lengths.{SegmentLength, length-of, is-length}
+use Rattle.descriptor.specs.Descriptor.{is_length, longest, bad_count, check_of}
+use Rattle.descriptor.specs.Lengths.{SegmentLength, length_of, is_length_lem}
 
 pub record Accepted (d : Descriptor) : Type 0 where
   pub length : SegmentLength d.segment_length
@@ -21,32 +21,32 @@ neither : (a b : Bool) → a || b ≡ false → (a ≡ false) × (b ≡ false)
 neither true b t = absurd (false≢true (sym t))
 neither false b t = (refl, t)
 
-pub accepted : (d : Descriptor) → checkOf d ≡ gives done → Accepted d
-unfolding checkOf badCount
+pub accepted : (d : Descriptor) → check_of d ≡ gives done → Accepted d
+unfolding check_of bad_count
 accepted d e =
     let l = d.segment_length in
     let mask = d.segment_length_mask in
     let count = d.segment_count_length in
-    let tenth = refuseIf (badCount l count) 10 in
-    let past8 = passed_first (not (isLength l)) 8 (refuseIf (not (eqb mask (l - 1))) 9 then tenth) done e in
+    let tenth = refuse_if (bad_count l count) 10 in
+    let past8 = passed_first (not (is_length l)) 8 (refuse_if (not (eqb mask (l - 1))) 9 then tenth) done e in
     let past9 = passed_first (not (eqb mask (l - 1))) 9 tenth done past8.1 in
-    let some = neither (eqb count 0) (not (eqb (count % l) 0) || ltb longest (count + 2 * l)) (no-fault (badCount l count) 10 past9.1) in
+    let some = neither (eqb count 0) (not (eqb (count % l) 0) || ltb longest (count + 2 * l)) (no_fault (bad_count l count) 10 past9.1) in
     let whole = neither (not (eqb (count % l) 0)) (ltb longest (count + 2 * l)) some.1 in
     record {
-      length = length-of (not-false (isLength l) past8.0);
+      length = length_of (not-false (is_length l) past8.0);
       mask = eqb-true mask (l - 1) (not-false (eqb mask (l - 1)) past9.0);
       positive = omega (arith, eqb-false count 0 some.0);
       multiple = eqb-true (count % l) 0 (not-false (eqb (count % l) 0) whole.0);
       fits = ltb-false longest (count + 2 * l) whole.1;
     }
 
-pub accepts : (d : Descriptor) → Accepted d → checkOf d ≡ gives done
-unfolding checkOf badCount
+pub accepts : (d : Descriptor) → Accepted d → check_of d ≡ gives done
+unfolding check_of bad_count
 accepts d a =
     let l = d.segment_length in
     let count = d.segment_count_length in
     simp (
-      is-length a.length,
+      is_length_lem a.length,
       eq-eqb d.segment_length_mask (l - 1) a.mask,
       ne_eqb count 0 (λ z. omega arith),
       eq-eqb (count % l) 0 a.multiple,

@@ -2,19 +2,19 @@
 use Rattle.std.specs.Prelude.{◌≡◌, refl, Bool, true, false, ◌&&◌, ◌||◌, ℕ, zero, suc, ◌^◌, ◌≤◌, eqb, leb}
 use Rattle.std.proofs.Common.{ap, ap₂, ◌∙◌, ⊎_elim, arith, le_refl, le_of_suc-le-suc, eq-or-lt_of_le, lt_of_not-le, eq-eqb, eqb-true, le-leb, leb-true, pow_mono}
 use Rattle.std.proofs.lemmas.Bool.{false≢true}
-use Rattle.descriptor.specs.Descriptor.{isPower, lastExponent, isLength}
+use Rattle.descriptor.specs.Descriptor.{is_power, last_exponent, is_length}
 
 pub record SegmentLength (l : ℕ) : Type 0 where
   pub exponent : ℕ
   pub from : 2 ≤ exponent
-  pub to : exponent ≤ lastExponent
+  pub to : exponent ≤ last_exponent
   pub is : l ≡ 2 ^ exponent
 
 pub at_least : {l : ℕ} → SegmentLength l → 4 ≤ l
 at_least p = rw p.is (pow_mono {i = 2} p.from)
 
-pub at_most : {l : ℕ} → SegmentLength l → l ≤ 2 ^ lastExponent
-at_most p = rw p.is (pow_mono {j = lastExponent} p.to)
+pub at_most : {l : ℕ} → SegmentLength l → l ≤ 2 ^ last_exponent
+at_most p = rw p.is (pow_mono {j = last_exponent} p.to)
 
 -- ---- powers of two, by their exponents
 
@@ -23,23 +23,23 @@ record PowerTo (last l : ℕ) : Type 0 where
   to : exponent ≤ last
   is : l ≡ 2 ^ exponent
 
-power-of : (last l : ℕ) → isPower last l ≡ true → PowerTo last l
-power-of zero l t = record { exponent = 0; to = le_refl 0; is = eqb-true l (2 ^ 0) t }
-power-of (suc last) l t =
-    elim (eqb l (2 ^ suc last)) as (λ b. eqb l (2 ^ suc last) ≡ b → b || isPower last l ≡ true → PowerTo (suc last) l) [
+power_of : (last l : ℕ) → is_power last l ≡ true → PowerTo last l
+power_of zero l t = record { exponent = 0; to = le_refl 0; is = eqb-true l (2 ^ 0) t }
+power_of (suc last) l t =
+    elim (eqb l (2 ^ suc last)) as (λ b. eqb l (2 ^ suc last) ≡ b → b || is_power last l ≡ true → PowerTo (suc last) l) [
       | true ↦ λ q r. record { exponent = suc last; to = le_refl (suc last); is = eqb-true l (2 ^ suc last) q }
-      | false ↦ λ q r. let p = power-of last l r in record { exponent = p.exponent; to = omega (arith, p.to); is = p.is }
+      | false ↦ λ q r. let p = power_of last l r in record { exponent = p.exponent; to = omega (arith, p.to); is = p.is }
     ] refl t
 
 or_right : (a : Bool) {b : Bool} → b ≡ true → a || b ≡ true
 or_right true q = refl
 or_right false q = q
 
-is-power : (last l e : ℕ) → e ≤ last → l ≡ 2 ^ e → isPower last l ≡ true
-is-power zero l e h q = let e0 : e ≡ 0 = omega arith in eq-eqb l (2 ^ 0) (q ∙ ap (λ (x : ℕ). 2 ^ x) e0)
-is-power (suc last) l e h q =
+is_power_lem : (last l e : ℕ) → e ≤ last → l ≡ 2 ^ e → is_power last l ≡ true
+is_power_lem zero l e h q = let e0 : e ≡ 0 = omega arith in eq-eqb l (2 ^ 0) (q ∙ ap (λ (x : ℕ). 2 ^ x) e0)
+is_power_lem (suc last) l e h q =
     ⊎_elim (λ w. simp (eq-eqb l (2 ^ suc last) (q ∙ ap (λ (x : ℕ). 2 ^ x) w)))
-    (λ w. or_right (eqb l (2 ^ suc last)) (is-power last l e (le_of_suc-le-suc w) q)) (eq-or-lt_of_le h)
+    (λ w. or_right (eqb l (2 ^ suc last)) (is_power_lem last l e (le_of_suc-le-suc w) q)) (eq-or-lt_of_le h)
 
 -- ---- and those from 4 on
 
@@ -47,11 +47,11 @@ both : (a b : Bool) → a && b ≡ true → (a ≡ true) × (b ≡ true)
 both true b t = (refl, t)
 both false b t = absurd (false≢true t)
 
-pub length-of : {l : ℕ} → isLength l ≡ true → SegmentLength l
-unfolding isLength
-length-of {l} t =
-    let parts = both (leb 4 l) (isPower lastExponent l) t in
-    let p = power-of lastExponent l parts.1 in
+pub length_of : {l : ℕ} → is_length l ≡ true → SegmentLength l
+unfolding is_length
+length_of {l} t =
+    let parts = both (leb 4 l) (is_power last_exponent l) t in
+    let p = power_of last_exponent l parts.1 in
     record {
       exponent = p.exponent;
       from = lt_of_not-le (λ h. omega (arith, leb-true 4 l parts.0, p.is, pow_mono {i = p.exponent} {j = 1} h));
@@ -59,9 +59,9 @@ length-of {l} t =
       is = p.is;
     }
 
-pub is-length : {l : ℕ} → SegmentLength l → isLength l ≡ true
-unfolding isLength
-is-length {l} p = ap₂ (λ (a b : Bool). a && b) (le-leb 4 l (at_least p)) (is-power lastExponent l p.exponent p.to p.is)
+pub is_length_lem : {l : ℕ} → SegmentLength l → is_length l ≡ true
+unfolding is_length
+is_length_lem {l} p = ap₂ (λ (a b : Bool). a && b) (le-leb 4 l (at_least p)) (is_power_lem last_exponent l p.exponent p.to p.is)
 
-pub no_length : (l : ℕ) → (SegmentLength l → ⊥) → isLength l ≡ false
-no_length l h = elim (isLength l) as (λ b. isLength l ≡ b → b ≡ false) [ true ↦ λ t. absurd (h (length-of t)) | false ↦ λ t. refl ] refl
+pub no_length : (l : ℕ) → (SegmentLength l → ⊥) → is_length l ≡ false
+no_length l h = elim (is_length l) as (λ b. is_length l ≡ b → b ≡ false) [ true ↦ λ t. absurd (h (length_of t)) | false ↦ λ t. refl ] refl

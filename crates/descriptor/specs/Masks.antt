@@ -7,11 +7,11 @@ use Rattle.std.proofs.lemmas.Bool.{eqb-false}
 use Rattle.std.proofs.Math.Arith.{bin_ind}
 use Rattle.std.specs.Int.Bits.{bit_and, and_step, and_self}
 use Rattle.std.proofs.lemmas.Nat.{and_mask}
-use Rattle.descriptor.specs.Descriptor.{lastExponent, isLength}
-use Rattle.descriptor.specs.Lengths.{SegmentLength, is-length, no_length}
+use Rattle.descriptor.specs.Descriptor.{last_exponent, is_length}
+use Rattle.descriptor.specs.Lengths.{SegmentLength, is_length_lem, no_length}
 
-power-of-two : (l : ℕ) → 0 < l → bit_and l (l - 1) ≡ 0 → (e : ℕ) × (l ≡ 2 ^ e)
-power-of-two =
+power_of_two : (l : ℕ) → 0 < l → bit_and l (l - 1) ≡ 0 → (e : ℕ) × (l ≡ 2 ^ e)
+power_of_two =
     bin_ind (λ (l : ℕ). 0 < l → bit_and l (l - 1) ≡ 0 → (e : ℕ) × (l ≡ 2 ^ e)) (λ h q. absurd (omega arith))
     (λ l ih h q.
     let z : bit_and (l / 2) ((l - 1) / 2) ≡ 0 = omega (arith, and_step l (l - 1)) in
@@ -28,19 +28,19 @@ power-of-two =
     ] refl)
 
 -- the low bits of a number by the mask
-pub mask-mod : {l mask : ℕ} (n : ℕ) → SegmentLength l → mask ≡ l - 1 → bit_and n mask ≡ n % l
-mask-mod n p q = rw (q, p.is) (and_mask n p.exponent)
+pub mask_mod : {l mask : ℕ} (n : ℕ) → SegmentLength l → mask ≡ l - 1 → bit_and n mask ≡ n % l
+mask_mod n p q = rw (q, p.is) (and_mask n p.exponent)
 
-pub length-test : (l : ℕ) → 4 ≤ l → l ≤ 2 ^ lastExponent → eqb (bit_and l (l - 1)) 0 ≡ isLength l
+pub length-test : (l : ℕ) → 4 ≤ l → l ≤ 2 ^ last_exponent → eqb (bit_and l (l - 1)) 0 ≡ is_length l
 length-test l a b =
-    elim (eqb (bit_and l (l - 1)) 0) as (λ t. eqb (bit_and l (l - 1)) 0 ≡ t → t ≡ isLength l) [
+    elim (eqb (bit_and l (l - 1)) 0) as (λ t. eqb (bit_and l (l - 1)) 0 ≡ t → t ≡ is_length l) [
       | true ↦ λ t.
-          let r = power-of-two l (omega arith) (eqb-true (bit_and l (l - 1)) 0 t) in
-          sym (is-length (record {
+          let r = power_of_two l (omega arith) (eqb-true (bit_and l (l - 1)) 0 t) in
+          sym (is_length_lem (record {
             exponent = r.0;
             from = lt_of_not-le (λ h. omega (arith, r.1, pow_mono {i = r.0} {j = 1} h));
-            to = le_of_suc-le-suc (lt_of_not-le (λ h. omega (arith, r.1, pow_mono {i = suc lastExponent} {j = r.0} h)));
+            to = le_of_suc-le-suc (lt_of_not-le (λ h. omega (arith, r.1, pow_mono {i = suc last_exponent} {j = r.0} h)));
             is = r.1;
           }))
-      | false ↦ λ t. sym (no_length l (λ p. eqb-false (bit_and l (l - 1)) 0 t (mask-mod l p refl ∙ mod_self l)))
+      | false ↦ λ t. sym (no_length l (λ p. eqb-false (bit_and l (l - 1)) 0 t (mask_mod l p refl ∙ mod_self l)))
     ] refl

@@ -5,25 +5,25 @@ use Rattle.std.proofs.Common.{sym, ap, ◌∙◌, arith}
 use Rattle.answers.specs.Answers.{Outcome}
 use Rattle.answers.specs.Checks.{Done}
 use Rattle.descriptor.specs.declared.Descriptor.{Descriptor}
-use Rattle.descriptor.specs.Descriptor.{isLength, badCount, checkOf, writeOf}
+use Rattle.descriptor.specs.Descriptor.{is_length, bad_count, check_of, write_of}
 use Rattle.descriptor.specs.RoundTrip.{Sized}
 
 abbrev good : Descriptor
 good = record { seed = 1; segment_length = 4; segment_length_mask = 3; segment_count_length = 4 }
 
-good-sized : Sized good
-good-sized = record { seed = omega arith; length = omega arith; mask = omega arith; count = omega arith }
+good_sized : Sized good
+good_sized = record { seed = omega arith; length = omega arith; mask = omega arith; count = omega arith }
 
 -- the first byte is that of the seed
-seed-written : get_or (writeOf good (replicate 20 0)).leaves 0 0 ≡ 1
-unfolding checkOf isLength badCount
-seed-written = refl
+seed_written : get_or (write_of good (replicate 20 0)).leaves 0 0 ≡ 1
+unfolding check_of is_length bad_count
+seed_written = refl
 
 -- of records whose numbers are those of their types
-pub some-room-written : (program : Descriptor → (room : List ℕ) → Outcome Done (List ℕ))
-    → ((d : Descriptor) (room : List ℕ) → Sized d → program d room ≡ writeOf d room)
+pub some_room_written : (program : Descriptor → (room : List ℕ) → Outcome Done (List ℕ))
+    → ((d : Descriptor) (room : List ℕ) → Sized d → program d room ≡ write_of d room)
     → ((d : Descriptor) (room : List ℕ) → Sized d → (program d room).leaves ≡ room) → ⊥
-some-room-written program fits alone =
-    let left = ap (λ (o : Outcome Done (List ℕ)). get_or o.leaves 0 0) (fits good (replicate 20 0) good-sized) in
-    let same = ap (λ (l : List ℕ). get_or l 0 0) (alone good (replicate 20 0) good-sized) in
-    absurd (let z : ◌≡◌ {A = ℕ} 1 0 = sym seed-written ∙ sym left ∙ same in omega arith)
+some_room_written program fits alone =
+    let left = ap (λ (o : Outcome Done (List ℕ)). get_or o.leaves 0 0) (fits good (replicate 20 0) good_sized) in
+    let same = ap (λ (l : List ℕ). get_or l 0 0) (alone good (replicate 20 0) good_sized) in
+    absurd (let z : ◌≡◌ {A = ℕ} 1 0 = sym seed_written ∙ sym left ∙ same in omega arith)

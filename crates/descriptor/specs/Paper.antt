@@ -9,14 +9,14 @@ use Rattle.descriptor.specs.declared.ReadAnswer.TheVariants as read
 use Rattle.descriptor.specs.declared.WriteAnswer.{WriteAnswer}
 use Rattle.descriptor.specs.declared.WriteAnswer.TheVariants as write
 
-abbrev pub checkPaper : CheckAnswer → Answer Done
-checkPaper check.Good = gives done
-checkPaper (check.Refused why) = refuses (number_of why)
+abbrev pub check_paper : CheckAnswer → Answer Done
+check_paper check.Good = gives done
+check_paper (check.Refused why) = refuses (number_of why)
 
-abbrev pub readPaper : ReadAnswer → Answer Descriptor
-readPaper (read.Good d) = gives d
-readPaper (read.Refused why) = refuses (number_of why)
+abbrev pub read_paper : ReadAnswer → Answer Descriptor
+read_paper (read.Good d) = gives d
+read_paper (read.Refused why) = refuses (number_of why)
 
-abbrev pub writePaper : WriteAnswer → Answer Done
-writePaper write.Done = gives done
-writePaper (write.Refused why) = refuses (number_of why)
+abbrev pub write_paper : WriteAnswer → Answer Done
+write_paper write.Done = gives done
+write_paper (write.Refused why) = refuses (number_of why)

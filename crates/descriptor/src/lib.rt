@@ -3,8 +3,8 @@ ghost use Rattle.std.specs.Prelude.{◌≡◌, ◌+◌, ◌≤◌, ◌<◌, leng
 ghost use Rattle.std.proofs.lemmas.List.Edits.{sets};
 ghost use Rattle.words.specs.Bytes.{number_at, bytes_of};
 ghost use Rattle.answers.specs.Answers.{outcome};
-ghost use Rattle.descriptor.specs.Descriptor.{isLength, checkOf, descriptorSize, descriptorOf, read_of, encode, writeOf};
-ghost use Rattle.descriptor.specs.Paper.{checkPaper, readPaper, writePaper};
+ghost use Rattle.descriptor.specs.Descriptor.{is_length, check_of, descriptor_size, descriptor_of, read_of, encode, write_of};
+ghost use Rattle.descriptor.specs.Paper.{check_paper, read_paper, write_paper};
 
 use answers::Refusal;
 
@@ -46,7 +46,7 @@ pub enum WriteAnswer {
 
 // Checks 8, 9 and 10.
 pub fn check(d: Descriptor) -> CheckAnswer
-    ensures { checkPaper result ≡ checkOf d }
+    ensures { check_paper result ≡ check_of d }
 {
     let size = d.segment_length;
     let mask = d.segment_length_mask;
@@ -71,7 +71,7 @@ pub fn check(d: Descriptor) -> CheckAnswer
 
 // A power of two in 4..262,144.
 fn is_length(size: u32) -> bool
-    ensures { result ≡ isLength size }
+    ensures { result ≡ is_length size }
 {
     if size < SHORTEST_SEGMENT {
         return false;
@@ -84,7 +84,7 @@ fn is_length(size: u32) -> bool
 
 // The record in the first twenty bytes, if checks 7 to 10 pass it.
 pub fn read(bytes: &[u8]) -> ReadAnswer
-    ensures { readPaper result ≡ read_of bytes.now }
+    ensures { read_paper result ≡ read_of bytes.now }
 {
     if bytes.len() < DESCRIPTOR_SIZE {
         return ReadAnswer::Refused(Refusal::ShortDescriptor);
@@ -99,8 +99,8 @@ pub fn read(bytes: &[u8]) -> ReadAnswer
 
 // The record in the first twenty bytes.
 pub fn parse(bytes: &[u8]) -> Descriptor
-    requires { descriptorSize ≤ length bytes.now }
-    ensures { result ≡ descriptorOf bytes.now }
+    requires { descriptor_size ≤ length bytes.now }
+    ensures { result ≡ descriptor_of bytes.now }
 {
     let low = word(bytes, 0);
     let high = word(bytes, 4);
@@ -135,7 +135,7 @@ fn wide(x: u8) -> u32
 
 // The first twenty bytes of the room become the record's, if check 7 passes the room, and 8 to 10 the record.
 pub fn write(d: Descriptor, room: &mut [u8]) -> WriteAnswer
-    ensures { outcome (writePaper result) room.new ≡ writeOf d room.old }
+    ensures { outcome (write_paper result) room.new ≡ write_of d room.old }
 {
     if room.len() < DESCRIPTOR_SIZE {
         return WriteAnswer::Refused(Refusal::ShortDescriptor);
@@ -152,7 +152,7 @@ pub fn write(d: Descriptor, room: &mut [u8]) -> WriteAnswer
 
 // The record's twenty bytes, from the start of the room.
 fn store(d: Descriptor, room: &mut [u8])
-    requires { descriptorSize ≤ length room.old }
+    requires { descriptor_size ≤ length room.old }
     ensures { room.new ≡ sets room.old 0 (encode d) }
 {
     let seed = d.seed;

@@ -9,30 +9,30 @@ use lib.Seq.{take_all}
 use lib.IntN.{ℤ}
 use borrow.Author.Tests.{le-leb, lt-leb, eq-eqb, ne_eqb}
 use Rattle.due_text.specs.Decimal.{number_of}
-use Rattle.due_text.specs.Clock.{signed, mostSeconds, clockAt, clockOf}
+use Rattle.due_text.specs.Clock.{signed, most_seconds, clock_at, clock_of}
 use Rattle.due_text.specs.declared.decimal.Number.TheVariants as number
 use Rattle.due_text.specs.declared.clock.Clock.TheVariants.{At, NotDigits, TooLarge}
 
 -- by the number of seconds
 module _ (negative : Bool) (n : ℕ) where
-  pub too-late : mostSeconds negative < n → TooLarge ≡ clockAt negative (number.Value n)
-  too-late h = rw (lt-leb n (mostSeconds negative) h)
+  pub too_late : most_seconds negative < n → TooLarge ≡ clock_at negative (number.Value n)
+  too_late h = rw (lt-leb n (most_seconds negative) h)
 
-  pub in-time : n ≤ mostSeconds negative → {seconds : ℤ} → seconds ≡ signed negative n → At seconds ≡ clockAt negative (number.Value n)
-  in-time h s = rw (le-leb n (mostSeconds negative) h) (ap At s)
+  pub in_time : n ≤ most_seconds negative → {seconds : ℤ} → seconds ≡ signed negative n → At seconds ≡ clock_at negative (number.Value n)
+  in_time h s = rw (le-leb n (most_seconds negative) h) (ap At s)
 
-pub empty-word : (word : List ℕ) → length word ≡ 0 → NotDigits ≡ clockOf word
-unfolding clockOf
-empty-word [] e = refl
-empty-word (byte ∷ rest) e = absurd (omega arith)
+pub empty_word : (word : List ℕ) → length word ≡ 0 → NotDigits ≡ clock_of word
+unfolding clock_of
+empty_word [] e = refl
+empty_word (byte ∷ rest) e = absurd (omega arith)
 
 pub after_minus : (word : List ℕ) → (length word ≡ 0 → ⊥) → get_or word 0 0 ≡ 45
-    → clockAt true (number_of (take (length word - 1) (drop 1 word))) ≡ clockOf word
-unfolding clockOf
+    → clock_at true (number_of (take (length word - 1) (drop 1 word))) ≡ clock_of word
+unfolding clock_of
 after_minus [] some e = absurd (some refl)
 after_minus (byte ∷ rest) some e = rw (eq-eqb byte 45 e, take_all (suc (length rest) - 1) rest (omega arith))
 
-pub without-minus : (word : List ℕ) → (length word ≡ 0 → ⊥) → (get_or word 0 0 ≡ 45 → ⊥) → clockAt false (number_of word) ≡ clockOf word
-unfolding clockOf
+pub without-minus : (word : List ℕ) → (length word ≡ 0 → ⊥) → (get_or word 0 0 ≡ 45 → ⊥) → clock_at false (number_of word) ≡ clock_of word
+unfolding clock_of
 without-minus [] some e = absurd (some refl)
 without-minus (byte ∷ rest) some e = rw (ne_eqb byte 45 e)

@@ -7,14 +7,14 @@ use native.Mathlib.Numerals.{add-one}
 use native.Mathlib.Omega.{arith}
 use lib.ListN.{length, get_or, take, drop, drop_of_length-le}
 use lib.Seq.{drop-cons}
-use Rattle.due_text.specs.Cut.{cut, inFront}
+use Rattle.due_text.specs.Cut.{cut, in_front}
 use Rattle.due_text.specs.Runs.{run}
 
 module _ (stops : ℕ → Bool) where
-  pub run-within : (text : List ℕ) → run stops text ≤ length text
+  pub run_within : (text : List ℕ) → run stops text ≤ length text
   unfolding run
-  run-within [] = omega arith
-  run-within (byte ∷ rest) = by (stops byte) (run-within rest)
+  run_within [] = omega arith
+  run_within (byte ∷ rest) = by (stops byte) (run_within rest)
     where
       by : (b : Bool) → run stops rest ≤ length rest → cond b 0 (suc (run stops rest)) ≤ suc (length rest)
       by true h = omega arith
@@ -37,10 +37,10 @@ module _ (stops : ℕ → Bool) where
           → let more = next ∷ rest in
           let k = run stops more in
           cut stops more ≡ take k more ∷ cut stops (drop (suc k) more)
-          → cond b ([] ∷ cut stops more) (inFront byte (cut stops more))
+          → cond b ([] ∷ cut stops more) (in_front byte (cut stops more))
           ≡ take (cond b 0 (suc k)) (byte ∷ more) ∷ cut stops (drop (suc (cond b 0 (suc k))) (byte ∷ more))
       by true e = refl
-      by false e = ap (inFront byte) e
+      by false e = ap (in_front byte) e
 
   -- a run from a place on: at the byte that stops it, past one that does not, and at the end
   module _ (text : List ℕ) (i : ℕ) {place : ℕ} (e : i + run stops (drop i text) ≡ place) where

@@ -12,11 +12,11 @@ further zero = refl
 further (suc n) = ap negsuc (omega arith)
 
 module _ (n : ℕ) (h : n < 2 ^ 63) where
-  pub further-fits : SFits w64 (negsuc 0 -ℤ to_z w64 n)
-  further-fits = rw (to_z_pos w64 h, further n) (record { sfits = omega arith })
+  pub further_fits : SFits w64 (negsuc 0 -ℤ to_z w64 n)
+  further_fits = rw (to_z_pos w64 h, further n) (record { sfits = omega arith })
 
-  pub further-is : to_z w64 (of_z w64 (negsuc 0 -ℤ to_z w64 n)) ≡ negsuc n
-  further-is = to_z-of_z further-fits ∙ rw (to_z_pos w64 h) (further n)
+  pub further_is : to_z w64 (of_z w64 (negsuc 0 -ℤ to_z w64 n)) ≡ negsuc n
+  further_is = to_z-of_z further_fits ∙ rw (to_z_pos w64 h) (further n)
 
 pub one_less : (n : ℕ) → (n ≡ 0 → ⊥) → negsuc (n - 1) ≡ neg_ℤ (pos n)
 one_less zero some = absurd (some refl)

@@ -8,9 +8,9 @@ use lib.ListN.{length, take, drop, length-drop}
 use lib.Seq.{drop-drop}
 use lib.Dec.{eqb}
 use borrow.Author.Tests.{eq-eqb, ne_eqb}
-use Rattle.due_text.specs.Cut.{cut, blank?, withoutEmpty, words_of}
+use Rattle.due_text.specs.Cut.{cut, blank?, without_empty, words_of}
 use Rattle.due_text.specs.Runs.{run, solid?, NextWord}
-use Rattle.due_text.proofs.Cutting.{run-within, first_piece}
+use Rattle.due_text.proofs.Cutting.{run_within, first_piece}
 
 -- the four blank bytes, tested one after the other
 module _ (byte : ℕ) where
@@ -22,17 +22,17 @@ module _ (byte : ℕ) where
     tab e = rw (ne_eqb byte 32 no-space, eq-eqb byte 9 e)
 
     module _ (no-tab : byte ≡ 9 → ⊥) where
-      pub carriage-return : byte ≡ 13 → true ≡ blank? byte
-      carriage-return e = rw (ne_eqb byte 32 no-space, ne_eqb byte 9 no-tab, eq-eqb byte 13 e)
+      pub carriage_return : byte ≡ 13 → true ≡ blank? byte
+      carriage_return e = rw (ne_eqb byte 32 no-space, ne_eqb byte 9 no-tab, eq-eqb byte 13 e)
 
-      pub only-newline : (byte ≡ 13 → ⊥) → eqb byte 10 ≡ blank? byte
-      only-newline no_return = rw (ne_eqb byte 32 no-space, ne_eqb byte 9 no-tab, ne_eqb byte 13 no_return)
+      pub only_newline : (byte ≡ 13 → ⊥) → eqb byte 10 ≡ blank? byte
+      only_newline no_return = rw (ne_eqb byte 32 no-space, ne_eqb byte 9 no-tab, ne_eqb byte 13 no_return)
 
 -- blank bytes in front of the words do not count
-past-blanks : (text : List ℕ) → words_of text ≡ words_of (drop (run solid? text) text)
+past_blanks : (text : List ℕ) → words_of text ≡ words_of (drop (run solid? text) text)
 unfolding cut run
-past-blanks [] = refl
-past-blanks (byte ∷ rest) = by (blank? byte) refl (past-blanks rest)
+past_blanks [] = refl
+past_blanks (byte ∷ rest) = by (blank? byte) refl (past_blanks rest)
   where
     by : (b : Bool) → blank? byte ≡ b → words_of rest ≡ words_of (drop (run solid? rest) rest)
         → words_of (byte ∷ rest) ≡ words_of (drop (run solid? (byte ∷ rest)) (byte ∷ rest))
@@ -50,10 +50,10 @@ past_word (byte ∷ rest) = by (blank? byte) refl (past_word rest)
     by true t e = rw (t, t)
     by false t e = rw t e
 
-no-blank-left : (text : List ℕ) → run solid? (drop (run solid? text) text) ≡ 0
+no_blank_left : (text : List ℕ) → run solid? (drop (run solid? text) text) ≡ 0
 unfolding run
-no-blank-left [] = refl
-no-blank-left (byte ∷ rest) = by (blank? byte) refl (no-blank-left rest)
+no_blank_left [] = refl
+no_blank_left (byte ∷ rest) = by (blank? byte) refl (no_blank_left rest)
   where
     by : (b : Bool) → blank? byte ≡ b → run solid? (drop (run solid? rest) rest) ≡ 0
         → run solid? (drop (run solid? (byte ∷ rest)) (byte ∷ rest)) ≡ 0
@@ -79,7 +79,7 @@ word_first (byte ∷ rest) e = by (blank? byte) refl
     by true t = absurd (omega (arith, rw t at e))
     by false t =
         let k = run blank? rest in
-        let first : words_of (byte ∷ rest) ≡ (byte ∷ take k rest) ∷ words_of (drop (suc k) rest) = rw t at (ap withoutEmpty (first_piece blank? (byte ∷ rest) (omega arith))) in
+        let first : words_of (byte ∷ rest) ≡ (byte ∷ take k rest) ∷ words_of (drop (suc k) rest) = rw t at (ap without_empty (first_piece blank? (byte ∷ rest) (omega arith))) in
         rw (t, ne_eqb (suc k) 0 (λ z. omega arith)) (first ∙ ap (λ (more : List (List ℕ)). (byte ∷ take k rest) ∷ more) (sym (past_word rest)))
 
 moved : (start k : ℕ) → eqb start (start + k) ≡ eqb k 0
@@ -96,6 +96,6 @@ next_word line at start end h s e =
     let same : end - start ≡ k = omega arith in
     record {
       ordered = omega arith;
-      within = omega (arith, run-within solid? a, run-within blank? b, length-drop at line, length-drop start line);
-      words = rw (same, e, moved start k, ← drop-drop k start line) (past-blanks a ∙ ap words_of there ∙ word_first b (rw there at (no-blank-left a)));
+      within = omega (arith, run_within solid? a, run_within blank? b, length-drop at line, length-drop start line);
+      words = rw (same, e, moved start k, ← drop-drop k start line) (past_blanks a ∙ ap words_of there ∙ word_first b (rw there at (no_blank_left a)));
     }

@@ -10,8 +10,8 @@ use Rattle.due_text.specs.declared.line.Line.{Line}
 use Rattle.due_text.specs.declared.line.Line.TheVariants.{Bad}
 
 module _ (last : ℕ) (above : Fault) {read : Number} {n : ℕ} (e : Value n ≡ read) (next : ℕ → Line) where
-  pub above-last : last < n → Bad above ≡ up_to last above read next
-  above-last h = rw (← e, lt-ltb last n h)
+  pub above_last : last < n → Bad above ≡ up_to last above read next
+  above_last h = rw (← e, lt-ltb last n h)
 
-  pub up-to-last : n ≤ last → next n ≡ up_to last above read next
-  up-to-last h = rw (← e, le-ltb last n h)
+  pub up_to_last : n ≤ last → next n ≡ up_to last above read next
+  up_to_last h = rw (← e, le-ltb last n h)

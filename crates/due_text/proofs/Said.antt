@@ -9,9 +9,9 @@ use lib.Seq.{take-length}
 use lib.Dec.{eqb}
 use borrow.Author.Tests.{eq-eqb, ne_eqb}
 use Rattle.bytes.specs.Bytes.{index_of, index_after, slice}
-use Rattle.due_text.specs.Cut.{beforeComment, words_of}
+use Rattle.due_text.specs.Cut.{before_comment, words_of}
 use Rattle.due_text.specs.Runs.{run, NextWord}
-use Rattle.due_text.specs.Line.{saidBy, plain_of, dueOf}
+use Rattle.due_text.specs.Line.{said_by, plain_of, due_of}
 use Rattle.due_text.specs.declared.line.Fault.TheVariants.{WordCount}
 use Rattle.due_text.specs.declared.line.Line.TheVariants.{Blank, Bad}
 
@@ -24,46 +24,46 @@ module _ {line : List ℕ} {at start end : ℕ} (w : NextWord line at start end)
 
 -- up to four words are looked for, each behind the one before
 module _ {line : List ℕ} {s1 e1 : ℕ} (w1 : NextWord line 0 s1 e1) where
-  pub no_word : s1 ≡ e1 → Blank ≡ saidBy (words_of line)
-  no_word e = ap saidBy (sym (none_left w1 e))
+  pub no_word : s1 ≡ e1 → Blank ≡ said_by (words_of line)
+  no_word e = ap said_by (sym (none_left w1 e))
 
   module _ (f1 : s1 ≡ e1 → ⊥) {s2 e2 : ℕ} (w2 : NextWord line e1 s2 e2) where
-    pub one_word : s2 ≡ e2 → plain_of (take (e1 - s1) (drop s1 line)) ≡ saidBy (words_of line)
+    pub one_word : s2 ≡ e2 → plain_of (take (e1 - s1) (drop s1 line)) ≡ said_by (words_of line)
     one_word e = rw (one_more w1 f1, none_left w2 e)
 
     module _ (f2 : s2 ≡ e2 → ⊥) {s3 e3 : ℕ} (w3 : NextWord line e2 s3 e3) where
-      pub two-words : s3 ≡ e3 → Bad WordCount ≡ saidBy (words_of line)
-      two-words e = rw (one_more w1 f1, one_more w2 f2, none_left w3 e)
+      pub two_words : s3 ≡ e3 → Bad WordCount ≡ said_by (words_of line)
+      two_words e = rw (one_more w1 f1, one_more w2 f2, none_left w3 e)
 
       module _ (f3 : s3 ≡ e3 → ⊥) {s4 e4 : ℕ} (w4 : NextWord line e3 s4 e4) where
-        pub three-words : s4 ≡ e4
-            → dueOf (take (e1 - s1) (drop s1 line)) (take (e2 - s2) (drop s2 line)) (take (e3 - s3) (drop s3 line)) ≡ saidBy (words_of line)
-        three-words e = rw (one_more w1 f1, one_more w2 f2, one_more w3 f3, none_left w4 e)
+        pub three_words : s4 ≡ e4
+            → due_of (take (e1 - s1) (drop s1 line)) (take (e2 - s2) (drop s2 line)) (take (e3 - s3) (drop s3 line)) ≡ said_by (words_of line)
+        three_words e = rw (one_more w1 f1, one_more w2 f2, one_more w3 f3, none_left w4 e)
 
-        pub four-words : (s4 ≡ e4 → ⊥) → Bad WordCount ≡ saidBy (words_of line)
-        four-words e = rw (one_more w1 f1, one_more w2 f2, one_more w3 f3, one_more w4 e)
+        pub four_words : (s4 ≡ e4 → ⊥) → Bad WordCount ≡ said_by (words_of line)
+        four_words e = rw (one_more w1 f1, one_more w2 f2, one_more w3 f3, one_more w4 e)
 
 -- `find` looks for one byte
-pub index-run : (byte : ℕ) (text : List ℕ) → index_of byte text ≡ run (λ (b : ℕ). eqb b byte) text
+pub index_run : (byte : ℕ) (text : List ℕ) → index_of byte text ≡ run (λ (b : ℕ). eqb b byte) text
 unfolding index_of index_after run
-index-run byte [] = refl
-index-run byte (first ∷ rest) = by (eqb first byte) (index-run byte rest)
+index_run byte [] = refl
+index_run byte (first ∷ rest) = by (eqb first byte) (index_run byte rest)
   where
     by : (b : Bool) → index_of byte rest ≡ run (λ (x : ℕ). eqb x byte) rest
         → index_after b (index_of byte rest) ≡ cond b 0 (suc (run (λ (x : ℕ). eqb x byte) rest))
     by true e = refl
     by false e = ap suc e
 
-first-comment : (text : List ℕ) → take (index_of 35 text) text ≡ beforeComment text
-unfolding index_of index_after beforeComment
-first-comment [] = refl
-first-comment (first ∷ rest) = by (eqb first 35) (first-comment rest)
+first_comment : (text : List ℕ) → take (index_of 35 text) text ≡ before_comment text
+unfolding index_of index_after before_comment
+first_comment [] = refl
+first_comment (first ∷ rest) = by (eqb first 35) (first_comment rest)
   where
-    by : (b : Bool) → take (index_of 35 rest) rest ≡ beforeComment rest
-        → take (index_after b (index_of 35 rest)) (first ∷ rest) ≡ cond b [] (first ∷ beforeComment rest)
+    by : (b : Bool) → take (index_of 35 rest) rest ≡ before_comment rest
+        → take (index_after b (index_of 35 rest)) (first ∷ rest) ≡ cond b [] (first ∷ before_comment rest)
     by true e = refl
     by false e = ap (λ (more : List ℕ). first ∷ more) e
 
-pub up-to-comment : (text : List ℕ) {end : ℕ} → end ≡ 0 + index_of 35 (slice 0 (length text) text) → take end text ≡ beforeComment text
+pub up_to_comment : (text : List ℕ) {end : ℕ} → end ≡ 0 + index_of 35 (slice 0 (length text) text) → take end text ≡ before_comment text
 unfolding slice
-up-to-comment text e = rw (e, zero-add, take-length text) (first-comment text)
+up_to_comment text e = rw (e, zero-add, take-length text) (first_comment text)

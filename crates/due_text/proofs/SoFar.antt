@@ -15,7 +15,7 @@ use Rattle.repeats.specs.Repeats.{among?}
 use Rattle.due_text.specs.Cut.{cut, newline?, lines_of}
 use Rattle.due_text.specs.Runs.{run}
 use Rattle.due_text.specs.Line.{line_of}
-use Rattle.due_text.specs.Keys.{KeysOutcome, keysOutcome, afterLine, readLines, inRoom, keys_of}
+use Rattle.due_text.specs.Keys.{KeysOutcome, keys_outcome, after_line, read_lines, in_room, keys_of}
 use Rattle.due_text.specs.declared.line.Fault.{Fault}
 use Rattle.due_text.specs.declared.line.Fault.TheVariants.{Refused, TooManyKeys}
 use Rattle.due_text.specs.declared.line.Line.{Line}
@@ -23,7 +23,7 @@ use Rattle.due_text.specs.declared.line.Line.TheVariants as line
 use Rattle.due_text.specs.declared.keys.KeysAnswer.{KeysAnswer}
 use Rattle.due_text.specs.declared.keys.KeysAnswer.TheVariants.{Read, Bad}
 use Rattle.due_text.proofs.Cutting.{first_piece}
-use Rattle.due_text.proofs.Said.{index-run}
+use Rattle.due_text.proofs.Said.{index_run}
 
 drop_min : (n : ℕ) (text : List ℕ) → drop (min n (length text)) text ≡ drop n text
 drop_min n text = by (dec_le n (length text))
@@ -35,13 +35,13 @@ drop_min n text = by (dec_le n (length text))
         drop_of_length-le text {i = min n (length text)} (omega arith) ∙ sym (drop_of_length-le text {i = n} far)
 
 -- the text cut at the next newline, which is passed
-next-line : (text : List ℕ) (at end : ℕ) → at < length text → end ≡ at + index_of 10 (slice at (length text) text)
+next_line : (text : List ℕ) (at end : ℕ) → at < length text → end ≡ at + index_of 10 (slice at (length text) text)
     → lines_of (drop at text) ≡ take (end - at) (drop at text) ∷ lines_of (drop (min (end + 1) (length text)) text)
 unfolding slice
-next-line text at end h e =
+next_line text at end h e =
     let rest = drop at text in
     let k = run newline? rest in
-    let found : end ≡ at + k = e ∙ ap (λ (i : ℕ). at + i) (rw (take-length text) (index-run 10 rest)) in
+    let found : end ≡ at + k = e ∙ ap (λ (i : ℕ). at + i) (rw (take-length text) (index_run 10 rest)) in
     let long : end - at ≡ k = omega arith in
     let behind : at + suc k ≡ end + 1 = omega arith in
     rw (long, drop_min (end + 1) text, ← behind, ← drop-drop (suc k) at text) (first_piece newline? rest (omega (arith, length-drop at text)))
@@ -49,31 +49,31 @@ next-line text at end h e =
 module _ (text room₀ : List ℕ) where
   -- the whole text, read from the front
   abbrev whole : KeysOutcome
-  whole = readLines (length room₀) 1 [] (lines_of text)
+  whole = read_lines (length room₀) 1 [] (lines_of text)
 
   -- after `number` lines, up to the place `at`, with `count` keys
   pub record SoFar (room : List ℕ) (at number count : ℕ) : Type 0 where
     pub few : number ≤ at
     pub within : at ≤ length text
     pub places : count ≤ length room
-    pub same-room : length room ≡ length room₀
+    pub same_room : length room ≡ length room₀
     pub untouched : drop count room ≡ drop count room₀
-    pub to-come : readLines (length room₀) (number + 1) (take count room) (lines_of (drop at text)) ≡ whole
+    pub to_come : read_lines (length room₀) (number + 1) (take count room) (lines_of (drop at text)) ≡ whole
 
 pub begins : (text room : List ℕ) → SoFar text room room 0 0 0
-begins text room = record { few = omega arith; within = omega arith; places = omega arith; same-room = refl; untouched = refl; to-come = refl }
+begins text room = record { few = omega arith; within = omega arith; places = omega arith; same_room = refl; untouched = refl; to_come = refl }
 
 module _ {text room₀ room : List ℕ} {at number count : ℕ} (s : SoFar text room₀ room at number count) where
   -- what is answered now is answered of the whole text
-  stops : {a : KeysAnswer} → keysOutcome a (take count room) ≡ whole text room₀ → keysOutcome a room ≡ keys_of text room₀
+  stops : {a : KeysAnswer} → keys_outcome a (take count room) ≡ whole text room₀ → keys_outcome a room ≡ keys_of text room₀
   unfolding keys_of
   stops {a} e =
       let kept : take count room ++ drop count room₀ ≡ room = rw (← s.untouched) (take-append-drop count room) in
-      ap (keysOutcome a) (sym kept) ∙ rw (length-take-le count room s.places) at (ap (inRoom room₀) e)
+      ap (keys_outcome a) (sym kept) ∙ rw (length-take-le count room s.places) at (ap (in_room room₀) e)
 
-  pub no-line-left : length text ≤ at → keysOutcome (Read count) room ≡ keys_of text room₀
-  unfolding readLines cut
-  no-line-left h = stops (rw (drop_of_length-le text {i = at} h, length-take-le count room s.places) at s.to-come)
+  pub no_line_left : length text ≤ at → keys_outcome (Read count) room ≡ keys_of text room₀
+  unfolding read_lines cut
+  no_line_left h = stops (rw (drop_of_length-le text {i = at} h, length-take-le count room s.places) at s.to_come)
 
   -- one line more
   module _ (h : at < length text) {end : ℕ} (e : end ≡ at + index_of 10 (slice at (length text) text)) where
@@ -84,34 +84,34 @@ module _ {text room₀ room : List ℕ} {at number count : ℕ} (s : SoFar text 
     next = min (end + 1) (length text)
 
     turn : {said : Line} → said ≡ line_of this
-        → afterLine (length room₀) (number + 1) (take count room) said (λ after. readLines (length room₀) (number + 1 + 1) after (lines_of (drop next text)))
+        → after_line (length room₀) (number + 1) (take count room) said (λ after. read_lines (length room₀) (number + 1 + 1) after (lines_of (drop next text)))
         ≡ whole text room₀
-    unfolding readLines
-    turn r = rw (next-line text at end h e, ← r) at s.to-come
+    unfolding read_lines
+    turn r = rw (next_line text at end h e, ← r) at s.to_come
 
-    pub bad-line : {why : Fault} → line.Bad why ≡ line_of this → keysOutcome (Bad (number + 1) why) room ≡ keys_of text room₀
-    bad-line r = stops (turn r)
+    pub bad_line : {why : Fault} → line.Bad why ≡ line_of this → keys_outcome (Bad (number + 1) why) room ≡ keys_of text room₀
+    bad_line r = stops (turn r)
 
-    pub after-blank : line.Blank ≡ line_of this → SoFar text room₀ room next (number + 1) count
-    after-blank r =
+    pub after_blank : line.Blank ≡ line_of this → SoFar text room₀ room next (number + 1) count
+    after_blank r =
         record {
           few = omega (arith, s.few);
           within = omega arith;
           places = s.places;
-          same-room = s.same-room;
+          same_room = s.same_room;
           untouched = s.untouched;
-          to-come = turn r;
+          to_come = turn r;
         }
 
     module _ {key : ℕ} (r : line.Key key ≡ line_of this) where
-      pub no_place : count ≡ length room → keysOutcome (Bad (number + 1) TooManyKeys) room ≡ keys_of text room₀
-      no_place f = stops (rw (length-take-le count room s.places, eq-eqb count (length room₀) (f ∙ s.same-room)) at (turn r))
+      pub no_place : count ≡ length room → keys_outcome (Bad (number + 1) TooManyKeys) room ≡ keys_of text room₀
+      no_place f = stops (rw (length-take-le count room s.places, eq-eqb count (length room₀) (f ∙ s.same_room)) at (turn r))
 
       module _ (free : count < length room) where
         not_full : count ≡ length room₀ → ⊥
-        not_full e = omega (arith, s.same-room)
+        not_full e = omega (arith, s.same_room)
 
-        pub repeated : among? key (take count room) ≡ true → keysOutcome (Bad (number + 1) (Refused RepeatedKeys)) room ≡ keys_of text room₀
+        pub repeated : among? key (take count room) ≡ true → keys_outcome (Bad (number + 1) (Refused RepeatedKeys)) room ≡ keys_of text room₀
         repeated l = stops (rw (length-take-le count room s.places, ne_eqb count (length room₀) not_full, l) at (turn r))
 
         pub after-key : among? key (take count room) ≡ false → SoFar text room₀ (set room count key) next (number + 1) (count + 1)
@@ -120,9 +120,9 @@ module _ {text room₀ room : List ℕ} {at number count : ℕ} (s : SoFar text 
               few = omega (arith, s.few);
               within = omega arith;
               places = simp length-set (omega arith);
-              same-room = simp length-set s.same-room;
+              same_room = simp length-set s.same_room;
               untouched =
                   drop-set-lt (count + 1) room count key (omega arith) ∙ sym (drop-drop 1 count room) ∙ ap (drop 1) s.untouched ∙ drop-drop 1 count room₀;
-              to-come = rw (add-one count, take-suc-set room count key free)
+              to_come = rw (add-one count, take-suc-set room count key free)
                   (rw (length-take-le count room s.places, ne_eqb count (length room₀) not_full, l) at (turn r));
             }

@@ -12,17 +12,17 @@ signed true seconds = neg_ℤ (pos seconds)
 signed false seconds = pos seconds
 
 -- how many seconds the clock can show before zero, and after it
-abbrev pub mostSeconds : (negative : Bool) → ℕ
-mostSeconds true = 2 ^ 63
-mostSeconds false = 2 ^ 63 - 1
+abbrev pub most_seconds : (negative : Bool) → ℕ
+most_seconds true = 2 ^ 63
+most_seconds false = 2 ^ 63 - 1
 
 -- the clock that so many seconds name, before zero or after it
-abbrev pub clockAt : (negative : Bool) → Number → Clock
-clockAt negative (number.Value seconds) = cond (leb seconds (mostSeconds negative)) (At (signed negative seconds)) TooLarge
-clockAt negative number.NotDigits = NotDigits
-clockAt negative number.TooLarge = TooLarge
+abbrev pub clock_at : (negative : Bool) → Number → Clock
+clock_at negative (number.Value seconds) = cond (leb seconds (most_seconds negative)) (At (signed negative seconds)) TooLarge
+clock_at negative number.NotDigits = NotDigits
+clock_at negative number.TooLarge = TooLarge
 
 -- `-` is 45
-unfoldable pub clockOf : List ℕ → Clock
-clockOf [] = NotDigits
-clockOf (byte ∷ rest) = cond (eqb byte 45) (clockAt true (number_of rest)) (clockAt false (number_of (byte ∷ rest)))
+unfoldable pub clock_of : List ℕ → Clock
+clock_of [] = NotDigits
+clock_of (byte ∷ rest) = cond (eqb byte 45) (clock_at true (number_of rest)) (clock_at false (number_of (byte ∷ rest)))

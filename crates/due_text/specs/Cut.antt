@@ -4,14 +4,14 @@
 use Rattle.std.specs.Prelude.{ℕ, Bool, cond, ◌||◌, List, [], ◌∷◌, eqb}
 
 -- a byte in front of the first piece; it is a piece by itself where there is none
-abbrev pub inFront : ℕ → List (List ℕ) → List (List ℕ)
-inFront byte [] = (byte ∷ []) ∷ []
-inFront byte (piece ∷ more) = (byte ∷ piece) ∷ more
+abbrev pub in_front : ℕ → List (List ℕ) → List (List ℕ)
+in_front byte [] = (byte ∷ []) ∷ []
+in_front byte (piece ∷ more) = (byte ∷ piece) ∷ more
 
 -- the pieces of a text, each up to a byte that ends it, which belongs to none; the last one may end with the text
 unfoldable pub cut : (ends : ℕ → Bool) → List ℕ → List (List ℕ)
 cut ends [] = []
-cut ends (byte ∷ rest) = cond (ends byte) ([] ∷ cut ends rest) (inFront byte (cut ends rest))
+cut ends (byte ∷ rest) = cond (ends byte) ([] ∷ cut ends rest) (in_front byte (cut ends rest))
 
 abbrev pub newline? : ℕ → Bool
 newline? byte = eqb byte 10
@@ -20,19 +20,19 @@ abbrev pub lines_of : List ℕ → List (List ℕ)
 lines_of text = cut newline? text
 
 -- what stands before the first `#`
-unfoldable pub beforeComment : List ℕ → List ℕ
-beforeComment [] = []
-beforeComment (byte ∷ rest) = cond (eqb byte 35) [] (byte ∷ beforeComment rest)
+unfoldable pub before_comment : List ℕ → List ℕ
+before_comment [] = []
+before_comment (byte ∷ rest) = cond (eqb byte 35) [] (byte ∷ before_comment rest)
 
 abbrev pub blank? : ℕ → Bool
 blank? byte = eqb byte 32 || eqb byte 9 || eqb byte 13 || eqb byte 10
 
 -- the pieces that are not empty
-abbrev pub withoutEmpty : List (List ℕ) → List (List ℕ)
-withoutEmpty [] = []
-withoutEmpty ([] ∷ more) = withoutEmpty more
-withoutEmpty ((byte ∷ rest) ∷ more) = (byte ∷ rest) ∷ withoutEmpty more
+abbrev pub without_empty : List (List ℕ) → List (List ℕ)
+without_empty [] = []
+without_empty ([] ∷ more) = without_empty more
+without_empty ((byte ∷ rest) ∷ more) = (byte ∷ rest) ∷ without_empty more
 
 -- words: what stands between blank bytes
 abbrev pub words_of : List ℕ → List (List ℕ)
-words_of line = withoutEmpty (cut blank? line)
+words_of line = without_empty (cut blank? line)

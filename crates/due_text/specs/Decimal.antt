@@ -8,18 +8,18 @@ use Rattle.due_text.specs.declared.decimal.Number.TheVariants.{Value, NotDigits,
 abbrev pub digit? : ℕ → Bool
 digit? byte = cond (leb 48 byte) (leb byte 57) false
 
-unfoldable pub allDigits : List ℕ → Bool
-allDigits [] = true
-allDigits (byte ∷ rest) = cond (digit? byte) (allDigits rest) false
+unfoldable pub all_digits : List ℕ → Bool
+all_digits [] = true
+all_digits (byte ∷ rest) = cond (digit? byte) (all_digits rest) false
 
 -- the number so far, with the digits that follow
-unfoldable pub valueFrom : (value : ℕ) → List ℕ → ℕ
-valueFrom value [] = value
-valueFrom value (byte ∷ rest) = valueFrom (value * 10 + (byte - 48)) rest
+unfoldable pub value_from : (value : ℕ) → List ℕ → ℕ
+value_from value [] = value
+value_from value (byte ∷ rest) = value_from (value * 10 + (byte - 48)) rest
 
 -- a number that 64 bits hold
 unfoldable pub fitting : ℕ → Number
 fitting value = cond (ltb value (2 ^ 64)) (Value value) TooLarge
 
 unfoldable pub number_of : List ℕ → Number
-number_of word = cond (eqb (length word) 0) NotDigits (cond (allDigits word) (fitting (valueFrom 0 word)) NotDigits)
+number_of word = cond (eqb (length word) 0) NotDigits (cond (all_digits word) (fitting (value_from 0 word)) NotDigits)

@@ -6,10 +6,10 @@ use Rattle.std.proofs.Math.Seq.{get_or-append_seam}
 use Rattle.answers.specs.Never.{never}
 use Rattle.answers.specs.declared.Refusal.TheVariants.{RepeatedKeys}
 use Rattle.repeats.specs.Repeats.{among?, Twice}
-use Rattle.repeats.specs.Laws.{among-at}
+use Rattle.repeats.specs.Laws.{among_at}
 use Rattle.due_text.specs.Cut.{lines_of}
 use Rattle.due_text.specs.Line.{line_of}
-use Rattle.due_text.specs.Keys.{KeysOutcome, keysOutcome, afterLine, readLines, keys_of}
+use Rattle.due_text.specs.Keys.{KeysOutcome, keys_outcome, after_line, read_lines, keys_of}
 use Rattle.due_text.specs.declared.line.Fault.TheVariants.{Refused, TooManyKeys}
 use Rattle.due_text.specs.declared.line.Line.{Line}
 use Rattle.due_text.specs.declared.line.Line.TheVariants as line
@@ -36,38 +36,38 @@ one_more keys key apart new t = by (ltb t.second (length keys)) refl
         let last : t.second ≡ length keys
         = omega (arith, t.within, ltb-false t.second (length keys) e, length-append keys (key ∷ [])) in
         let before : t.first < length keys = omega (arith, t.apart) in
-        let again = among-at key keys t.first before
+        let again = among_at key keys t.first before
         (sym (old t.first before) ∙ t.equal ∙ ap (λ (k : ℕ). get_or (keys ++ key ∷ []) k 0) last ∙ get_or-append_seam keys key [] 0) in
         never (cc)
 
-after_line : (size number : ℕ) (keys : List ℕ) → Different keys → (l : Line) (next : List ℕ → KeysOutcome)
-    → ((after : List ℕ) → Different after → Different (next after).leaves) → Different (afterLine size number keys l next).leaves
-after_line size number keys apart line.Blank next go = go keys apart
-after_line size number keys apart (line.Bad why) next go = apart
-after_line size number keys apart (line.Key key) next go = by (eqb (length keys) size) (among? key keys) refl
+after_line_lem : (size number : ℕ) (keys : List ℕ) → Different keys → (l : Line) (next : List ℕ → KeysOutcome)
+    → ((after : List ℕ) → Different after → Different (next after).leaves) → Different (after_line size number keys l next).leaves
+after_line_lem size number keys apart line.Blank next go = go keys apart
+after_line_lem size number keys apart (line.Bad why) next go = apart
+after_line_lem size number keys apart (line.Key key) next go = by (eqb (length keys) size) (among? key keys) refl
   where
     by : (full again : Bool) → among? key keys ≡ again
         → Different
-        (cond full (keysOutcome (Bad number TooManyKeys) keys) (cond again (keysOutcome (Bad number (Refused RepeatedKeys)) keys) (next (keys ++ key ∷ [])))).leaves
+        (cond full (keys_outcome (Bad number TooManyKeys) keys) (cond again (keys_outcome (Bad number (Refused RepeatedKeys)) keys) (next (keys ++ key ∷ [])))).leaves
     by true again e = apart
     by false true e = apart
     by false false e = go (keys ++ key ∷ []) (one_more keys key apart e)
 
-lines-different : (size number : ℕ) (keys : List ℕ) (lines : List (List ℕ)) → Different keys → Different (readLines size number keys lines).leaves
-unfolding readLines
-lines-different size number keys [] apart = apart
-lines-different size number keys (l ∷ more) apart =
-    after_line size number keys apart (line_of l) (λ after. readLines size (number + 1) after more) (λ after. lines-different size (number + 1) after more)
+lines_different : (size number : ℕ) (keys : List ℕ) (lines : List (List ℕ)) → Different keys → Different (read_lines size number keys lines).leaves
+unfolding read_lines
+lines_different size number keys [] apart = apart
+lines_different size number keys (l ∷ more) apart =
+    after_line_lem size number keys apart (line_of l) (λ after. read_lines size (number + 1) after more) (λ after. lines_different size (number + 1) after more)
 
 counted : (count : ℕ) (r : KeysAnswer) (keys : List ℕ) → Read count ≡ r → Counts r keys → length keys ≡ count
 counted count (Read n) keys e c = let same : count ≡ n = cc in sym (same ∙ c)
 counted count (Bad number why) keys e c = never (cc)
 
-pub read-different : (text room : List ℕ) {count : ℕ} {after : List ℕ} → keysOutcome (Read count) after ≡ keys_of text room → Different (take count after)
+pub read_different : (text room : List ℕ) {count : ℕ} {after : List ℕ} → keys_outcome (Read count) after ≡ keys_of text room → Different (take count after)
 unfolding keys_of
-read-different text room {count} e =
-    let read = readLines (length room) 1 [] (lines_of text) in
+read_different text room {count} e =
+    let read = read_lines (length room) 1 [] (lines_of text) in
     let left = ap (λ (o : KeysOutcome). o.leaves) e in
     let many = counted count read.answer read.leaves (ap (λ (o : KeysOutcome). o.answer) e) (all_lines (length room) 1 [] (lines_of text)) in
     rw (left, take_at read.leaves (drop (length read.leaves) room) count many)
-    (lines-different (length room) 1 [] (lines_of text) (λ t. omega (arith, t.within)))
+    (lines_different (length room) 1 [] (lines_of text) (λ t. omega (arith, t.within)))

@@ -16,25 +16,25 @@ pub record KeysOutcome : Type 0 where
   pub answer : KeysAnswer
   pub leaves : List ℕ
 
-abbrev pub keysOutcome : KeysAnswer → List ℕ → KeysOutcome
-keysOutcome a l = record { answer = a; leaves = l }
+abbrev pub keys_outcome : KeysAnswer → List ℕ → KeysOutcome
+keys_outcome a l = record { answer = a; leaves = l }
 
 -- one line, with this number, after these keys: `next` goes on, unless the line is bad, the room full or the key listed already
-abbrev pub afterLine : (size number : ℕ) (keys : List ℕ) → Line → (next : List ℕ → KeysOutcome) → KeysOutcome
-afterLine size number keys line.Blank next = next keys
-afterLine size number keys (line.Bad why) next = keysOutcome (Bad number why) keys
-afterLine size number keys (line.Key key) next =
-    cond (eqb (length keys) size) (keysOutcome (Bad number TooManyKeys) keys)
-    (cond (among? key keys) (keysOutcome (Bad number (Refused RepeatedKeys)) keys) (next (keys ++ key ∷ [])))
+abbrev pub after_line : (size number : ℕ) (keys : List ℕ) → Line → (next : List ℕ → KeysOutcome) → KeysOutcome
+after_line size number keys line.Blank next = next keys
+after_line size number keys (line.Bad why) next = keys_outcome (Bad number why) keys
+after_line size number keys (line.Key key) next =
+    cond (eqb (length keys) size) (keys_outcome (Bad number TooManyKeys) keys)
+    (cond (among? key keys) (keys_outcome (Bad number (Refused RepeatedKeys)) keys) (next (keys ++ key ∷ [])))
 
 -- the lines to come, the first of which has this number, after these keys; there is room for `size` keys in all
-unfoldable pub readLines : (size number : ℕ) (keys : List ℕ) (lines : List (List ℕ)) → KeysOutcome
-readLines size number keys [] = keysOutcome (Read (length keys)) keys
-readLines size number keys (line ∷ more) = afterLine size number keys (line_of line) (λ after. readLines size (number + 1) after more)
+unfoldable pub read_lines : (size number : ℕ) (keys : List ℕ) (lines : List (List ℕ)) → KeysOutcome
+read_lines size number keys [] = keys_outcome (Read (length keys)) keys
+read_lines size number keys (line ∷ more) = after_line size number keys (line_of line) (λ after. read_lines size (number + 1) after more)
 
 -- the keys stand in the first places of the room, and its other places are as they were
-abbrev pub inRoom : (room : List ℕ) → KeysOutcome → KeysOutcome
-inRoom room read = keysOutcome read.answer (read.leaves ++ drop (length read.leaves) room)
+abbrev pub in_room : (room : List ℕ) → KeysOutcome → KeysOutcome
+in_room room read = keys_outcome read.answer (read.leaves ++ drop (length read.leaves) room)
 
 unfoldable pub keys_of : (text room : List ℕ) → KeysOutcome
-keys_of text room = inRoom room (readLines (length room) 1 [] (lines_of text))
+keys_of text room = in_room room (read_lines (length room) 1 [] (lines_of text))

@@ -2,8 +2,8 @@
 use Rattle.std.specs.Prelude.{◌≡◌, List, ℕ}
 use Rattle.std.proofs.Common.{sym, ap, ◌∙◌}
 use Rattle.due_text.specs.Decimal.{number_of}
-use Rattle.due_text.specs.Line.{plain_of, dueOf, line_of}
-use Rattle.due_text.specs.Keys.{KeysOutcome, keysOutcome, keys_of}
+use Rattle.due_text.specs.Line.{plain_of, due_of, line_of}
+use Rattle.due_text.specs.Keys.{KeysOutcome, keys_outcome, keys_of}
 use Rattle.due_text.specs.declared.decimal.Number.{Number}
 use Rattle.due_text.specs.declared.line.Line.{Line}
 use Rattle.due_text.specs.declared.keys.KeysAnswer.{KeysAnswer}
@@ -14,12 +14,12 @@ one_number word r s p q = p ∙ sym q
 pub one_plain : (key : List ℕ) (r s : Line) → r ≡ plain_of key → s ≡ plain_of key → r ≡ s
 one_plain key r s p q = p ∙ sym q
 
-pub one-due : (unit valve seconds : List ℕ) (r s : Line) → r ≡ dueOf unit valve seconds → s ≡ dueOf unit valve seconds → r ≡ s
-one-due unit valve seconds r s p q = p ∙ sym q
+pub one_due : (unit valve seconds : List ℕ) (r s : Line) → r ≡ due_of unit valve seconds → s ≡ due_of unit valve seconds → r ≡ s
+one_due unit valve seconds r s p q = p ∙ sym q
 
 pub one_line : (text : List ℕ) (r s : Line) → r ≡ line_of text → s ≡ line_of text → r ≡ s
 one_line text r s p q = p ∙ sym q
 
-pub one-keys : (text room : List ℕ) (r s : KeysAnswer) (after other : List ℕ)
-    → keysOutcome r after ≡ keys_of text room → keysOutcome s other ≡ keys_of text room → (r ≡ s) × (after ≡ other)
-one-keys text room r s after other p q = (ap (λ (t : KeysOutcome). t.answer) (p ∙ sym q), ap (λ (t : KeysOutcome). t.leaves) (p ∙ sym q))
+pub one_keys : (text room : List ℕ) (r s : KeysAnswer) (after other : List ℕ)
+    → keys_outcome r after ≡ keys_of text room → keys_outcome s other ≡ keys_of text room → (r ≡ s) × (after ≡ other)
+one_keys text room r s after other p q = (ap (λ (t : KeysOutcome). t.answer) (p ∙ sym q), ap (λ (t : KeysOutcome). t.leaves) (p ∙ sym q))

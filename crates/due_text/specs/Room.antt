@@ -5,7 +5,7 @@ use Rattle.answers.specs.declared.Refusal.TheVariants.{RepeatedKeys}
 use Rattle.repeats.specs.Repeats.{among?}
 use Rattle.due_text.specs.Cut.{lines_of}
 use Rattle.due_text.specs.Line.{line_of}
-use Rattle.due_text.specs.Keys.{KeysOutcome, keysOutcome, afterLine, readLines, keys_of}
+use Rattle.due_text.specs.Keys.{KeysOutcome, keys_outcome, after_line, read_lines, keys_of}
 use Rattle.due_text.specs.declared.line.Fault.TheVariants.{Refused, TooManyKeys}
 use Rattle.due_text.specs.declared.line.Line.{Line}
 use Rattle.due_text.specs.declared.line.Line.TheVariants as line
@@ -21,36 +21,36 @@ abbrev pub Counts : KeysAnswer → (keys : List ℕ) → Type 0
 Counts (Read count) keys = count ≡ length keys
 Counts (Bad number why) keys = Unit
 
-after_line : (size number : ℕ) (keys : List ℕ) (l : Line) (next : List ℕ → KeysOutcome) → ((after : List ℕ) → Counts (next after).answer (next after).leaves)
-    → let t = afterLine size number keys l next in
+after_line_lem : (size number : ℕ) (keys : List ℕ) (l : Line) (next : List ℕ → KeysOutcome) → ((after : List ℕ) → Counts (next after).answer (next after).leaves)
+    → let t = after_line size number keys l next in
     Counts t.answer t.leaves
-after_line size number keys line.Blank next go = go keys
-after_line size number keys (line.Bad why) next go = tt
-after_line size number keys (line.Key key) next go = by (eqb (length keys) size) (among? key keys)
+after_line_lem size number keys line.Blank next go = go keys
+after_line_lem size number keys (line.Bad why) next go = tt
+after_line_lem size number keys (line.Key key) next go = by (eqb (length keys) size) (among? key keys)
   where
     by : (full again : Bool)
-        → let t = cond full (keysOutcome (Bad number TooManyKeys) keys) (cond again (keysOutcome (Bad number (Refused RepeatedKeys)) keys) (next (keys ++ key ∷ []))) in
+        → let t = cond full (keys_outcome (Bad number TooManyKeys) keys) (cond again (keys_outcome (Bad number (Refused RepeatedKeys)) keys) (next (keys ++ key ∷ []))) in
         Counts t.answer t.leaves
     by true again = tt
     by false true = tt
     by false false = go (keys ++ key ∷ [])
 
 pub all_lines : (size number : ℕ) (keys : List ℕ) (lines : List (List ℕ))
-    → let t = readLines size number keys lines in
+    → let t = read_lines size number keys lines in
     Counts t.answer t.leaves
-unfolding readLines
+unfolding read_lines
 all_lines size number keys [] = refl
 all_lines size number keys (l ∷ more) =
-    after_line size number keys (line_of l) (λ after. readLines size (number + 1) after more) (λ after. all_lines size (number + 1) after more)
+    after_line_lem size number keys (line_of l) (λ after. read_lines size (number + 1) after more) (λ after. all_lines size (number + 1) after more)
 
-in-front : (r : KeysAnswer) (keys rest : List ℕ) → Counts r keys → WithinRoom r (length (keys ++ rest))
-in-front (Read count) keys rest e = omega (arith, length-append keys rest)
-in-front (Bad number why) keys rest e = tt
+in_front_lem : (r : KeysAnswer) (keys rest : List ℕ) → Counts r keys → WithinRoom r (length (keys ++ rest))
+in_front_lem (Read count) keys rest e = omega (arith, length-append keys rest)
+in_front_lem (Bad number why) keys rest e = tt
 
-pub within-room : (text room : List ℕ) {r : KeysAnswer} {after : List ℕ} → keysOutcome r after ≡ keys_of text room → WithinRoom r (length after)
+pub within_room : (text room : List ℕ) {r : KeysAnswer} {after : List ℕ} → keys_outcome r after ≡ keys_of text room → WithinRoom r (length after)
 unfolding keys_of
-within-room text room {r} {after} e =
-    let t = readLines (length room) 1 [] (lines_of text) in
+within_room text room {r} {after} e =
+    let t = read_lines (length room) 1 [] (lines_of text) in
     let answered : r ≡ t.answer = ap (λ (o : KeysOutcome). o.answer) e in
     let left : after ≡ t.leaves ++ drop (length t.leaves) room = ap (λ (o : KeysOutcome). o.leaves) e in
-    rw (answered, left) (in-front t.answer t.leaves (drop (length t.leaves) room) (all_lines (length room) 1 [] (lines_of text)))
+    rw (answered, left) (in_front_lem t.answer t.leaves (drop (length t.leaves) room) (all_lines (length room) 1 [] (lines_of text)))

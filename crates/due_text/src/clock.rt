@@ -2,7 +2,7 @@
 ghost use Rattle.std.specs.Prelude.{◌≡◌, true, false};
 ghost use Rattle.due_text.specs.Decimal.{number_of};
 ghost use Rattle.due_text.specs.declared.decimal.Number.TheVariants.{Value};
-ghost use Rattle.due_text.specs.Clock.{clockAt, clockOf};
+ghost use Rattle.due_text.specs.Clock.{clock_at, clock_of};
 
 use crate::decimal;
 use crate::decimal::Number;
@@ -18,7 +18,7 @@ pub enum Clock {
 }
 
 pub fn read(word: &[u8]) -> Clock
-    ensures { result ≡ clockOf word.now }
+    ensures { result ≡ clock_of word.now }
 {
     if word.len() == 0 {
         return Clock::NotDigits;
@@ -30,7 +30,7 @@ pub fn read(word: &[u8]) -> Clock
 }
 
 fn seconds(digits: &[u8], negative: bool) -> Clock
-    ensures { result ≡ clockAt negative (number_of digits.now) }
+    ensures { result ≡ clock_at negative (number_of digits.now) }
 {
     let number = decimal::read(digits);
     match number {
@@ -46,7 +46,7 @@ fn seconds(digits: &[u8], negative: bool) -> Clock
 }
 
 fn after_zero(seconds: u64) -> Clock
-    ensures { result ≡ clockAt false (Value seconds) }
+    ensures { result ≡ clock_at false (Value seconds) }
 {
     if LAST_SECOND < seconds {
         return Clock::TooLarge;
@@ -56,7 +56,7 @@ fn after_zero(seconds: u64) -> Clock
 
 // Counted from -1, since the first second of all, -2^63, has no counterpart after zero.
 fn before_zero(seconds: u64) -> Clock
-    ensures { result ≡ clockAt true (Value seconds) }
+    ensures { result ≡ clock_at true (Value seconds) }
 {
     if seconds == 0 {
         return Clock::At(0);

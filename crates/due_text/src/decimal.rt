@@ -1,6 +1,6 @@
 // A number in decimal.
 ghost use Rattle.std.specs.Prelude.{◌≡◌, ◌-◌};
-ghost use Rattle.due_text.specs.Decimal.{digit?, allDigits, valueFrom, fitting, number_of};
+ghost use Rattle.due_text.specs.Decimal.{digit?, all_digits, value_from, fitting, number_of};
 
 const LARGEST: u64 = 0xffff_ffff_ffff_ffff;
 
@@ -34,7 +34,7 @@ fn is_digit(byte: u8) -> bool
 }
 
 fn all_digits(word: &[u8]) -> bool
-    ensures { result ≡ allDigits word.now }
+    ensures { result ≡ all_digits word.now }
 {
     let mut i = 0;
     while i < word.len() {
@@ -58,7 +58,7 @@ fn digit(byte: u8) -> u64
 
 // The number that digits write.
 fn value(digits: &[u8]) -> Number
-    ensures { result ≡ fitting (valueFrom 0 digits.now) }
+    ensures { result ≡ fitting (value_from 0 digits.now) }
 {
     let mut value = 0;
     let mut i = 0;

@@ -1,6 +1,6 @@
 // The keys of a whole text, line by line.
 ghost use Rattle.std.specs.Prelude.{◌≡◌, ◌+◌, ◌≤◌, min, length};
-ghost use Rattle.due_text.specs.Keys.{keysOutcome, keys_of};
+ghost use Rattle.due_text.specs.Keys.{keys_outcome, keys_of};
 
 use crate::line;
 use crate::line::{Fault, Line};
@@ -17,7 +17,7 @@ pub enum KeysAnswer {
 
 // The keys of the text, in its order, into the first places of the room.
 pub fn read(text: &[u8], room: &mut [u64]) -> KeysAnswer
-    ensures { keysOutcome result room.new ≡ keys_of text.now room.old }
+    ensures { keys_outcome result room.new ≡ keys_of text.now room.old }
 {
     let mut at = 0;
     let mut number = 0;

@@ -1,9 +1,9 @@
 // One line of the text.
 ghost use Rattle.std.specs.Prelude.{◌≡◌};
 ghost use Rattle.flush.specs.FlushKey.{paper};
-ghost use Rattle.due_text.specs.Clock.{clockOf};
+ghost use Rattle.due_text.specs.Clock.{clock_of};
 ghost use Rattle.due_text.specs.Cut.{words_of};
-ghost use Rattle.due_text.specs.Line.{line_of, saidBy, plain_of, dueOf, dueAtUnit, dueAtClock, keyed_of};
+ghost use Rattle.due_text.specs.Line.{line_of, said_by, plain_of, due_of, due_at_unit, due_at_clock, keyed_of};
 
 use crate::clock::Clock;
 use crate::decimal::Number;
@@ -44,7 +44,7 @@ pub fn read(text: &[u8]) -> Line
 
 // What the words of a line say.
 fn said(text: &[u8]) -> Line
-    ensures { result ≡ saidBy (words_of text.now) }
+    ensures { result ≡ said_by (words_of text.now) }
 {
     let first = word::next(text, 0);
     let start1 = first.start;
@@ -89,7 +89,7 @@ pub fn plain(key: &[u8]) -> Line
 
 // A flush: its unit first, then its valve, then its seconds.
 pub fn due(unit: &[u8], valve: &[u8], seconds: &[u8]) -> Line
-    ensures { result ≡ dueOf unit.now valve.now seconds.now }
+    ensures { result ≡ due_of unit.now valve.now seconds.now }
 {
     let number = decimal::read(unit);
     match number {
@@ -105,7 +105,7 @@ pub fn due(unit: &[u8], valve: &[u8], seconds: &[u8]) -> Line
 }
 
 fn due_at_unit(unit: u16, valve: &[u8], seconds: &[u8]) -> Line
-    ensures { result ≡ dueAtUnit unit valve.now seconds.now }
+    ensures { result ≡ due_at_unit unit valve.now seconds.now }
 {
     let number = decimal::read(valve);
     match number {
@@ -121,7 +121,7 @@ fn due_at_unit(unit: u16, valve: &[u8], seconds: &[u8]) -> Line
 }
 
 fn due_at_valve(unit: u16, valve: u8, seconds: &[u8]) -> Line
-    ensures { result ≡ dueAtClock unit valve (clockOf seconds.now) }
+    ensures { result ≡ due_at_clock unit valve (clock_of seconds.now) }
 {
     let clock = clock::read(seconds);
     match clock {

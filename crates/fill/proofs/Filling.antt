@@ -7,8 +7,8 @@ use lib.ListN.{length, get_or}
 use Rattle.stuck.specs.Stuck.{Slots, Pick, pick}
 use Rattle.stuck.specs.Fill.{Entry, store, fill}
 use Rattle.machine.specs.Machine.{stores}
-use Rattle.peel.specs.Segments.{slotsIn}
-use Rattle.peel.specs.Buffers.{picksIn}
+use Rattle.peel.specs.Segments.{slots_in}
+use Rattle.peel.specs.Buffers.{picks_in}
 use Rattle.peel.specs.Requires.{Segmented, CanFill}
 
 module _ (slots : ℕ → Slots) (fingerprint : ℕ → ℕ) where
@@ -18,14 +18,14 @@ module _ (slots : ℕ → Slots) (fingerprint : ℕ → ℕ) where
 
   -- the first i keys of the two lists, stored onto some values
   abbrev pub stored : (order positions : List ℕ) (i : ℕ) (values : List ℕ) → List ℕ
-  stored order positions i = fill (stores slots fingerprint (picksIn i order positions))
+  stored order positions i = fill (stores slots fingerprint (picks_in i order positions))
 
-  fill-last : (picks : List Pick) (hash position : ℕ) (values : List ℕ)
+  fill_last : (picks : List Pick) (hash position : ℕ) (values : List ℕ)
       → fill (stores slots fingerprint (picks ++ (pick hash position ∷ []))) values
       ≡ fill (stores slots fingerprint picks) (store (entry_of hash position) values)
   unfolding fill
-  fill-last [] hash position values = refl
-  fill-last (pick other at ∷ picks) hash position values = ap (store (entry_of other at)) (fill-last picks hash position values)
+  fill_last [] hash position values = refl
+  fill_last (pick other at ∷ picks) hash position values = ap (store (entry_of other at)) (fill_last picks hash position values)
 
   -- the keys before i, stored onto what there is, give what all n give
   pub record Filling (order positions : List ℕ) (n : ℕ) (before values : List ℕ) (i : ℕ) : Type 0 where
@@ -41,24 +41,24 @@ module _ {slots : ℕ → Slots} {fingerprint : ℕ → ℕ} {order positions : 
     pub fill_step : {values' : List ℕ} → 0 < i → length values' ≡ length values
         → values' ≡ store (entry_of slots fingerprint (get_or order (i - 1) 0) (get_or positions (i - 1) 0)) values
         → Filling slots fingerprint order positions n before values' (i - 1)
-    unfolding picksIn
+    unfolding picks_in
     fill_step some same e =
         let more : suc (i - 1) ≡ i = omega arith in
         record {
           within = omega (arith, k.within);
           same = same ∙ k.same;
           whole = ap (stored slots fingerprint order positions (i - 1)) e
-              ∙ sym (fill-last slots fingerprint (picksIn (i - 1) order positions) (get_or order (i - 1) 0) (get_or positions (i - 1) 0) values)
+              ∙ sym (fill_last slots fingerprint (picks_in (i - 1) order positions) (get_or order (i - 1) 0) (get_or positions (i - 1) 0) values)
               ∙ ap (λ (m : ℕ). stored slots fingerprint order positions m values) more
               ∙ k.whole;
         }
 
     pub fill_end : i ≤ 0 → values ≡ stored slots fingerprint order positions n before
-    unfolding picksIn fill
+    unfolding picks_in fill
     fill_end none = let first : 0 ≡ i = omega arith in ap (λ (m : ℕ). stored slots fingerprint order positions m values) first ∙ k.whole
 
 -- the next key can be stored
-pub can-fill-one : {segment mask span : ℕ} {fingerprint : ℕ → ℕ} {order positions : List ℕ} {n : ℕ} {before values : List ℕ} {i : ℕ}
-    → CanFill segment mask span before order positions n → Filling (slotsIn segment mask span) fingerprint order positions n before values i → 0 < i
+pub can_fill_one : {segment mask span : ℕ} {fingerprint : ℕ → ℕ} {order positions : List ℕ} {n : ℕ} {before values : List ℕ} {i : ℕ}
+    → CanFill segment mask span before order positions n → Filling (slots_in segment mask span) fingerprint order positions n before values i → 0 < i
     → Segmented segment mask span (length values) × (get_or positions (i - 1) 0 < 3)
-can-fill-one {i = i} can k some = (rw k.same can.layout, can.positions-are (i - 1) (omega (arith, k.within)))
+can_fill_one {i = i} can k some = (rw k.same can.layout, can.positions_are (i - 1) (omega (arith, k.within)))

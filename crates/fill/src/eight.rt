@@ -1,10 +1,10 @@
 // The fingerprints of 8 bits.
 ghost use Rattle.std.specs.Prelude.{◌≡◌, ◌<◌, length};
-ghost use Rattle.arith.specs.Fingerprint.{fingerprintOf};
+ghost use Rattle.arith.specs.Fingerprint.{fingerprint_of};
 ghost use Rattle.stuck.specs.Fill.{store, fill};
 ghost use Rattle.machine.specs.Machine.{stores};
-ghost use Rattle.peel.specs.Segments.{slotsIn};
-ghost use Rattle.peel.specs.Buffers.{picksIn};
+ghost use Rattle.peel.specs.Segments.{slots_in};
+ghost use Rattle.peel.specs.Buffers.{picks_in};
 ghost use Rattle.peel.specs.Requires.{Segmented, CanFill};
 
 use arith::fingerprint::fingerprint8;
@@ -14,7 +14,7 @@ use arith::slots::slots;
 fn fill_one(fingerprints: &mut [u8], hash: u64, position: u8, segment: u32, mask: u32, span: u32)
     requires { Segmented segment mask span (length fingerprints.old) × (position < 3) }
     ensures { fingerprints.new
-        ≡ store (record { slots = slotsIn segment mask span hash; position = position; fingerprint = fingerprintOf 8 hash })
+        ≡ store (record { slots = slots_in segment mask span hash; position = position; fingerprint = fingerprint_of 8 hash })
         fingerprints.old }
 {
     let three = slots(hash, segment, mask, span);
@@ -38,7 +38,7 @@ pub fn fill8(
 )
     requires { CanFill segment mask span fingerprints.old order.now positions.now n }
     ensures { fingerprints.new
-        ≡ fill (stores (slotsIn segment mask span) (fingerprintOf 8) (picksIn n order.now positions.now))
+        ≡ fill (stores (slots_in segment mask span) (fingerprint_of 8) (picks_in n order.now positions.now))
         fingerprints.old }
 {
     let mut i = n;

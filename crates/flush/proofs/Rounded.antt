@@ -12,7 +12,7 @@ use lib.IntN.{ℤ, pos, negsuc, neg_ℤ, pred_ℤ, ◌+ℤ◌, ◌-ℤ◌, -ℤ_
 use lib.Signed.{mag, lt_z, quot_z, rem_z, mag_rem}
 use mir.Syntax.{w64}
 use mir.Val.{SFits, hbits}
-use Rattle.flush.specs.FlushKey.{secondsPerHour, hourOf}
+use Rattle.flush.specs.FlushKey.{seconds_per_hour, hour_of}
 use Rattle.flush.proofs.Sums.{sum_fits}
 
 -- ---- minus k
@@ -25,8 +25,8 @@ minus-mag : (k : ℕ) → mag (neg_ℤ (pos k)) ≤ k
 minus-mag zero = omega arith
 minus-mag (suc k) = omega arith
 
-minus-less : (k : ℕ) → neg_ℤ (pos k) -ℤ pos 1 ≡ negsuc k
-minus-less k = -ℤ_one (neg_ℤ (pos k)) ∙ by k
+minus_less : (k : ℕ) → neg_ℤ (pos k) -ℤ pos 1 ≡ negsuc k
+minus_less k = -ℤ_one (neg_ℤ (pos k)) ∙ by k
   where
     by : (k : ℕ) → pred_ℤ (neg_ℤ (pos k)) ≡ negsuc k
     by zero = refl
@@ -35,23 +35,23 @@ minus-less k = -ℤ_one (neg_ℤ (pos k)) ∙ by k
 -- ---- the hour
 
 abbrev pub quotient : ℤ → ℤ
-quotient z = quot_z z (pos secondsPerHour)
+quotient z = quot_z z (pos seconds_per_hour)
 
 abbrev pub remainder : ℤ → ℤ
-remainder z = rem_z z (pos secondsPerHour)
+remainder z = rem_z z (pos seconds_per_hour)
 
-pub exact : (z : ℤ) → lt_z (remainder z) (pos 0) ≡ false → quotient z ≡ hourOf z
+pub exact : (z : ℤ) → lt_z (remainder z) (pos 0) ≡ false → quotient z ≡ hour_of z
 exact (pos n) t = refl
 exact (negsuc n) t =
-    let none = ltb-false 0 (suc n % secondsPerHour) (sym (minus-test (suc n % secondsPerHour)) ∙ t) in
-    let next : suc n / secondsPerHour ≡ suc (n / secondsPerHour) = omega arith in
+    let none = ltb-false 0 (suc n % seconds_per_hour) (sym (minus-test (suc n % seconds_per_hour)) ∙ t) in
+    let next : suc n / seconds_per_hour ≡ suc (n / seconds_per_hour) = omega arith in
     ap (λ (k : ℕ). neg_ℤ (pos k)) next
 
-pub rounded-up : (z : ℤ) → lt_z (remainder z) (pos 0) ≡ true → quotient z -ℤ pos 1 ≡ hourOf z
-rounded-up (pos n) t = absurd (omega (arith, ltb-true (n % secondsPerHour) 0 t))
-rounded-up (negsuc n) t =
-    let some = ltb-true 0 (suc n % secondsPerHour) (sym (minus-test (suc n % secondsPerHour)) ∙ t) in
-    minus-less (suc n / secondsPerHour) ∙ ap negsuc (omega arith)
+pub rounded_up : (z : ℤ) → lt_z (remainder z) (pos 0) ≡ true → quotient z -ℤ pos 1 ≡ hour_of z
+rounded_up (pos n) t = absurd (omega (arith, ltb-true (n % seconds_per_hour) 0 t))
+rounded_up (negsuc n) t =
+    let some = ltb-true 0 (suc n % seconds_per_hour) (sym (minus-test (suc n % seconds_per_hour)) ∙ t) in
+    minus_less (suc n / seconds_per_hour) ∙ ap negsuc (omega arith)
 
 -- ---- what fits
 
@@ -66,15 +66,15 @@ module _ {z : ℤ} (f : SFits w64 z) where
   pub quotient_fits : (d : ℕ) → 1 < d → SFits w64 (quot_z z (pos d))
   quotient_fits d h = record { sfits = omega (arith, small z d h f) }
 
-  pub remainder-fits : SFits w64 (remainder z)
-  remainder-fits = record { sfits = omega (arith, mag_rem z (pos secondsPerHour), f.sfits) }
+  pub remainder_fits : SFits w64 (remainder z)
+  remainder_fits = record { sfits = omega (arith, mag_rem z (pos seconds_per_hour), f.sfits) }
 
-  pub less-fits : (d : ℕ) (b : ℤ) → 1 < d → mag b ≤ 1 → SFits w64 (quot_z z (pos d) +ℤ b)
-  less-fits d b h k = sum_fits (quot_z z (pos d)) b (omega (arith, small z d h f))
+  pub less_fits : (d : ℕ) (b : ℤ) → 1 < d → mag b ≤ 1 → SFits w64 (quot_z z (pos d) +ℤ b)
+  less_fits d b h k = sum_fits (quot_z z (pos d)) b (omega (arith, small z d h f))
 
-hour-small : (z : ℤ) → mag (hourOf z) ≤ mag z
-hour-small (pos n) = omega arith
-hour-small (negsuc n) = omega arith
+hour_small : (z : ℤ) → mag (hour_of z) ≤ mag z
+hour_small (pos n) = omega arith
+hour_small (negsuc n) = omega arith
 
-pub hour-fits : {z : ℤ} → SFits w64 z → SFits w64 (hourOf z)
-hour-fits {z} f = record { sfits = omega (arith, hour-small z, f.sfits) }
+pub hour_fits : {z : ℤ} → SFits w64 z → SFits w64 (hour_of z)
+hour_fits {z} f = record { sfits = omega (arith, hour_small z, f.sfits) }

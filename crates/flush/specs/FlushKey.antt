@@ -3,38 +3,38 @@
 use Rattle.std.specs.Prelude.{ℕ, ◌+◌, ◌-◌, ◌*◌, ◌^◌, ℤ, pos, neg_ℤ}
 use Rattle.std.specs.Int.Signed.{lt_z}
 use Rattle.answers.specs.Answers.{number_of, Answer, refuses, gives}
-use Rattle.answers.specs.Checks.{refuseIf, ◌then◌}
-use Rattle.flush.specs.Floor.{floorDiv, modulo}
+use Rattle.answers.specs.Checks.{refuse_if, ◌then◌}
+use Rattle.flush.specs.Floor.{floor_div, modulo}
 use Rattle.flush.specs.declared.KeyAnswer.{KeyAnswer}
 use Rattle.flush.specs.declared.KeyAnswer.TheVariants.{Key, Refused}
 
-abbrev pub secondsPerHour : ℕ
-secondsPerHour = 3600
+abbrev pub seconds_per_hour : ℕ
+seconds_per_hour = 3600
 
-abbrev pub hourOf : (seconds : ℤ) → ℤ
-hourOf seconds = floorDiv seconds secondsPerHour
+abbrev pub hour_of : (seconds : ℤ) → ℤ
+hour_of seconds = floor_div seconds seconds_per_hour
 
-abbrev pub firstHour : ℤ
-firstHour = neg_ℤ (pos (2 ^ 39))
+abbrev pub first_hour : ℤ
+first_hour = neg_ℤ (pos (2 ^ 39))
 
-abbrev pub lastHour : ℤ
-lastHour = pos (2 ^ 39 - 1)
+abbrev pub last_hour : ℤ
+last_hour = pos (2 ^ 39 - 1)
 
 -- the key has 40 bits for the hour
-abbrev pub hoursHeld : ℕ
-hoursHeld = 2 ^ 40
+abbrev pub hours_held : ℕ
+hours_held = 2 ^ 40
 
 abbrev pub key_of : (unit valve held : ℕ) → ℕ
 key_of unit valve held = unit * 2 ^ 48 + valve * 2 ^ 40 + held
 
-unfoldable pub keyAtHour : (unit valve : ℕ) (hour : ℤ) → Answer ℕ
-keyAtHour unit valve hour =
-    refuseIf (lt_z hour firstHour) 12
-    then refuseIf (lt_z lastHour hour) 12
-    then gives (key_of unit valve (modulo hour hoursHeld))
+unfoldable pub key_at_hour : (unit valve : ℕ) (hour : ℤ) → Answer ℕ
+key_at_hour unit valve hour =
+    refuse_if (lt_z hour first_hour) 12
+    then refuse_if (lt_z last_hour hour) 12
+    then gives (key_of unit valve (modulo hour hours_held))
 
-unfoldable pub flushKeyOf : (unit valve : ℕ) (seconds : ℤ) → Answer ℕ
-flushKeyOf unit valve seconds = keyAtHour unit valve (hourOf seconds)
+unfoldable pub flush_key_of : (unit valve : ℕ) (seconds : ℤ) → Answer ℕ
+flush_key_of unit valve seconds = key_at_hour unit valve (hour_of seconds)
 
 -- the paper's number and value for each case of the enum
 abbrev pub paper : KeyAnswer → Answer ℕ

@@ -1,7 +1,7 @@
 // The key under which a flush is filed: which unit, which valve, and in which hour of the clock, from zero on or below it.
 ghost use Rattle.std.specs.Prelude.{◌≡◌, ◌<◌};
 ghost use Rattle.flush.specs.Floor.{modulo};
-ghost use Rattle.flush.specs.FlushKey.{hourOf, hoursHeld, key_of, flushKeyOf, paper};
+ghost use Rattle.flush.specs.FlushKey.{hour_of, hours_held, key_of, flush_key_of, paper};
 ghost use Rattle.flush.specs.Hours.{Good};
 
 use answers::Refusal;
@@ -21,7 +21,7 @@ pub enum KeyAnswer {
 }
 
 pub fn flush_key(unit: u16, valve: u8, seconds: i64) -> KeyAnswer
-    ensures { paper result ≡ flushKeyOf unit valve seconds }
+    ensures { paper result ≡ flush_key_of unit valve seconds }
 {
     let hour = hour_of(seconds);
     if hour < FIRST_HOUR {
@@ -36,7 +36,7 @@ pub fn flush_key(unit: u16, valve: u8, seconds: i64) -> KeyAnswer
 
 // The floor of seconds / 3,600. Division drops the remainder, so below zero it rounds up where there is one.
 fn hour_of(seconds: i64) -> i64
-    ensures { result ≡ hourOf seconds }
+    ensures { result ≡ hour_of seconds }
 {
     let quotient = seconds / SECONDS_PER_HOUR;
     let remainder = seconds % SECONDS_PER_HOUR;
@@ -49,7 +49,7 @@ fn hour_of(seconds: i64) -> i64
 // The hour modulo 2^40, as the key holds it.
 fn held(hour: i64) -> u64
     requires { Good hour }
-    ensures { result ≡ modulo hour hoursHeld }
+    ensures { result ≡ modulo hour hours_held }
 {
     if hour < 0 {
         return (hour + HOURS_HELD) as u64;
@@ -59,7 +59,7 @@ fn held(hour: i64) -> u64
 
 // The three numbers side by side.
 fn key(unit: u16, valve: u8, held: u64) -> u64
-    requires { held < hoursHeld }
+    requires { held < hours_held }
     ensures { result ≡ key_of unit valve held }
 {
     (unit as u64) * 0x1_0000_0000_0000 + (valve as u64) * 0x100_0000_0000 + held

@@ -1,8 +1,8 @@
 // What a packed file answers to a key, and whether it answers yes to every key of a text.
 ghost use Rattle.std.specs.Prelude.{◌≡◌, true, false, ◌+◌, length};
 ghost use Rattle.answers.specs.Answers.{gives};
-ghost use Rattle.descriptor.specs.Descriptor.{descriptorSize};
-ghost use Rattle.layout.specs.Layout.{maxSlots};
+ghost use Rattle.descriptor.specs.Descriptor.{descriptor_size};
+ghost use Rattle.layout.specs.Layout.{max_slots};
 ghost use Rattle.query.specs.Paper.{paper};
 ghost use Rattle.flushlist.specs.Held.{asked_of, Held};
 
@@ -15,7 +15,7 @@ const LIST_ROOM: usize = DESCRIPTOR_SIZE + MAX_SLOTS + 1;
 
 // Only the length is promised, so that nothing above computes with so many zeros.
 pub fn list_room() -> [u8; LIST_ROOM]
-    ensures { descriptorSize + maxSlots + 1 ≡ length result }
+    ensures { descriptor_size + max_slots + 1 ≡ length result }
 {
     [0; LIST_ROOM]
 }

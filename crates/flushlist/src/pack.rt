@@ -1,6 +1,6 @@
 // From a text of due flushes to a list: the 20 bytes of the descriptor, and the fingerprints.
 ghost use Rattle.std.specs.Prelude.{◌≡◌, ◌*◌, length};
-ghost use Rattle.capacity.specs.Capacity.{maxKeys};
+ghost use Rattle.capacity.specs.Capacity.{max_keys};
 
 use crate::{held, messages};
 use bfuse8::BuildAnswer;
@@ -19,7 +19,7 @@ const TEXT_ROOM: usize = 64 * MOST_KEYS;
 
 // Only the length is promised, so that nothing above computes with so many zeros.
 fn text_room() -> [u8; TEXT_ROOM]
-    ensures { 64 * maxKeys ≡ length result }
+    ensures { 64 * max_keys ≡ length result }
 {
     [0; TEXT_ROOM]
 }

@@ -5,41 +5,41 @@ use Prim.Native.Nat.{ℕ}
 use native.Mathlib.Omega.{arith}
 use lib.ListN.{length, replicate, length-replicate}
 use Rattle.descriptor.specs.declared.Descriptor.{Descriptor}
-use Rattle.layout.specs.Layout.{slotCountOf}
+use Rattle.layout.specs.Layout.{slot_count_of}
 use Rattle.stuck.specs.Stuck.{Pick}
 use Rattle.peel.specs.Requires.{CanRun}
-use Rattle.peel.specs.Picks.{picksOfKeys}
-use Rattle.fuse.specs.Attempts.{descriptorAt, picksAt}
+use Rattle.peel.specs.Picks.{picks_of_keys}
+use Rattle.fuse.specs.Attempts.{descriptor_at, picks_at}
 use Rattle.fuse.specs.FreeAttempts.{segmented}
 use Rattle.fuse.specs.Seek.{CanAttempt}
 
 module _ {keys lone counts sums positions order : List ℕ} (can : CanAttempt keys lone counts sums positions order) (number : ℕ)
-    {counts' sums' : List ℕ} (counts-clear : counts' ≡ replicate (length counts) 0) (sums-clear : sums' ≡ replicate (length sums) 0) where
-  counts-length : length counts' ≡ slotCountOf (length keys)
-  counts-length = ap length counts-clear ∙ length-replicate (length counts) 0 ∙ can.counts-length
+    {counts' sums' : List ℕ} (counts_clear : counts' ≡ replicate (length counts) 0) (sums_clear : sums' ≡ replicate (length sums) 0) where
+  counts_length : length counts' ≡ slot_count_of (length keys)
+  counts_length = ap length counts_clear ∙ length-replicate (length counts) 0 ∙ can.counts_length
 
-  can-run-as : let d = descriptorAt (length keys) number in
+  can_run_as : let d = descriptor_at (length keys) number in
       CanRun d.segment_length d.segment_length_mask d.segment_count_length keys lone counts' sums' order positions
-  can-run-as =
+  can_run_as =
       record {
-        layout = rw counts-length (segmented number can.few);
+        layout = rw counts_length (segmented number can.few);
         few = omega (arith, can.few);
-        same-lone = can.lone-length ∙ sym counts-length;
-        counts-clear = counts-clear ∙ ap (λ (k : ℕ). replicate k 0) (can.counts-length ∙ sym counts-length);
-        sums-clear = sums-clear ∙ ap (λ (k : ℕ). replicate k 0) (can.sums-length ∙ sym counts-length);
-        order-room = can.order-room;
-        positions-room = can.positions-room;
+        same_lone = can.lone_length ∙ sym counts_length;
+        counts_clear = counts_clear ∙ ap (λ (k : ℕ). replicate k 0) (can.counts_length ∙ sym counts_length);
+        sums_clear = sums_clear ∙ ap (λ (k : ℕ). replicate k 0) (can.sums_length ∙ sym counts_length);
+        order_room = can.order_room;
+        positions_room = can.positions_room;
       }
 
-  module _ {d : Descriptor} (described : d ≡ descriptorAt (length keys) number) where
-    pub can-run : CanRun d.segment_length d.segment_length_mask d.segment_count_length keys lone counts' sums' order positions
-    can-run = rw described can-run-as
+  module _ {d : Descriptor} (described : d ≡ descriptor_at (length keys) number) where
+    pub can_run : CanRun d.segment_length d.segment_length_mask d.segment_count_length keys lone counts' sums' order positions
+    can_run = rw described can_run_as
 
     pub tried : {picks : List Pick}
-        → picks ≡ picksOfKeys d.segment_length d.segment_length_mask d.segment_count_length (length counts') d.seed keys
-        → picks ≡ picksAt keys number
-    unfolding picksAt
+        → picks ≡ picks_of_keys d.segment_length d.segment_length_mask d.segment_count_length (length counts') d.seed keys
+        → picks ≡ picks_at keys number
+    unfolding picks_at
     tried run =
-        let at = descriptorAt (length keys) number in
+        let at = descriptor_at (length keys) number in
         (rw described at run)
-        ∙ ap (λ (slots : ℕ). picksOfKeys at.segment_length at.segment_length_mask at.segment_count_length slots at.seed keys) counts-length
+        ∙ ap (λ (slots : ℕ). picks_of_keys at.segment_length at.segment_length_mask at.segment_count_length slots at.seed keys) counts_length

@@ -1,16 +1,16 @@
 -- Document 01, modules 2, 4 and 8: the attempts on a list of keys, by their numbers from 1. Each has its seed and its layout; what it does
 -- with them is the section "One attempt, and the order that fixes the bytes". Assumes nothing.
 use Rattle.std.specs.Prelude.{Bool, List, ℕ, ◌-◌, length, eqb}
-use Rattle.arith.specs.SplitMix64.{seedOf}
+use Rattle.arith.specs.SplitMix64.{seed_of}
 use Rattle.layout.specs.declared.Layout.{Layout}
-use Rattle.layout.specs.Layout.{layout_of, slotCountOf}
+use Rattle.layout.specs.Layout.{layout_of, slot_count_of}
 use Rattle.descriptor.specs.declared.Descriptor.{Descriptor}
 use Rattle.stuck.specs.Stuck.{Slots, Pick}
-use Rattle.peel.specs.Picks.{slotsOfKeys, picksOfKeys, fingerprintsOf}
+use Rattle.peel.specs.Picks.{slots_of_keys, picks_of_keys, fingerprints_of}
 
 -- an attempt limit or number is at most this
-abbrev pub maxAttempts : ℕ
-maxAttempts = 1000
+abbrev pub max_attempts : ℕ
+max_attempts = 1000
 
 -- the descriptor of a seed and a layout: the mask is L - 1
 abbrev pub describe : ℕ → Layout → Descriptor
@@ -23,27 +23,27 @@ describe seed layout =
     }
 
 -- attempt i on n keys
-unfoldable pub descriptorAt : (n i : ℕ) → Descriptor
-descriptorAt n i = describe (seedOf i) (layout_of n i)
+unfoldable pub descriptor_at : (n i : ℕ) → Descriptor
+descriptor_at n i = describe (seed_of i) (layout_of n i)
 
 -- the slots that each of the keys touches in attempt i
-unfoldable pub slotsAt : List ℕ → ℕ → List Slots
-slotsAt keys i =
-    let d = descriptorAt (length keys) i in
-    slotsOfKeys d.segment_length d.segment_length_mask d.segment_count_length d.seed keys
+unfoldable pub slots_at : List ℕ → ℕ → List Slots
+slots_at keys i =
+    let d = descriptor_at (length keys) i in
+    slots_of_keys d.segment_length d.segment_length_mask d.segment_count_length d.seed keys
 
 -- the keys that it takes
-unfoldable pub picksAt : List ℕ → ℕ → List Pick
-picksAt keys i =
-    let d = descriptorAt (length keys) i in
-    picksOfKeys d.segment_length d.segment_length_mask d.segment_count_length (slotCountOf (length keys)) d.seed keys
+unfoldable pub picks_at : List ℕ → ℕ → List Pick
+picks_at keys i =
+    let d = descriptor_at (length keys) i in
+    picks_of_keys d.segment_length d.segment_length_mask d.segment_count_length (slot_count_of (length keys)) d.seed keys
 
 -- "the attempt succeeded if n keys were taken". (Exactly then it has no stuck set: FreeAttempts.antt.)
 unfoldable pub free : List ℕ → ℕ → Bool
-free keys i = eqb (length (picksAt keys i)) (length keys)
+free keys i = eqb (length (picks_at keys i)) (length keys)
 
 -- its fingerprints, of w bits each, one for each of the A slots
-unfoldable pub fingerprintsAt : (w : ℕ) → List ℕ → ℕ → List ℕ
-fingerprintsAt w keys i =
-    let d = descriptorAt (length keys) i in
-    fingerprintsOf w d.segment_length d.segment_length_mask d.segment_count_length (slotCountOf (length keys)) d.seed keys
+unfoldable pub fingerprints_at : (w : ℕ) → List ℕ → ℕ → List ℕ
+fingerprints_at w keys i =
+    let d = descriptor_at (length keys) i in
+    fingerprints_of w d.segment_length d.segment_length_mask d.segment_count_length (slot_count_of (length keys)) d.seed keys

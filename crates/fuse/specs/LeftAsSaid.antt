@@ -5,32 +5,32 @@ use Rattle.std.proofs.Common.{arith, take_at, drop_at}
 use Rattle.std.proofs.lemmas.List.{length-replicate}
 use Rattle.answers.specs.Answers.{Answer, refuses, gives, Outcome}
 use Rattle.answers.specs.Never.{never}
-use Rattle.answers.specs.Checks.{Done, done, unlessRefused}
-use Rattle.layout.specs.Layout.{slotCountOf, bucketStartsOf}
+use Rattle.answers.specs.Checks.{Done, done, unless_refused}
+use Rattle.layout.specs.Layout.{slot_count_of, bucket_starts_of}
 use Rattle.repeats.specs.Repeats.{repeats?}
-use Rattle.fuse.specs.Attempts.{free, descriptorAt, fingerprintsAt}
-use Rattle.fuse.specs.Memory.{Memory, zeroed, checked, scratchZeroed}
-use Rattle.fuse.specs.Checked.{up-to-four}
-use Rattle.fuse.specs.Build.{Success, success, firstFree, repeatedOutcome, foundOutcome, searchOf}
-use Rattle.fuse.specs.FreeAttempts.{attempt-fingerprints-length}
+use Rattle.fuse.specs.Attempts.{free, descriptor_at, fingerprints_at}
+use Rattle.fuse.specs.Memory.{Memory, zeroed, checked, scratch_zeroed}
+use Rattle.fuse.specs.Checked.{up_to_four}
+use Rattle.fuse.specs.Build.{Success, success, first_free, repeated_outcome, found_outcome, search_of}
+use Rattle.fuse.specs.FreeAttempts.{attempt_fingerprints_length}
 use Rattle.fuse.specs.Leaves.{ZeroedUpTo, KeptBeyond, EachScratch, Leaves}
 
-zeroed-up-to : (needed : ℕ) (before : List ℕ) → ZeroedUpTo needed (zeroed needed before)
-zeroed-up-to needed before = take_at (replicate needed 0) (drop needed before) needed (length-replicate needed 0)
+zeroed_up_to : (needed : ℕ) (before : List ℕ) → ZeroedUpTo needed (zeroed needed before)
+zeroed_up_to needed before = take_at (replicate needed 0) (drop needed before) needed (length-replicate needed 0)
 
-kept-beyond : (needed : ℕ) (before : List ℕ) → KeptBeyond needed before (zeroed needed before)
-kept-beyond needed before = drop_at (replicate needed 0) (drop needed before) needed (length-replicate needed 0)
+kept_beyond : (needed : ℕ) (before : List ℕ) → KeptBeyond needed before (zeroed needed before)
+kept_beyond needed before = drop_at (replicate needed 0) (drop needed before) needed (length-replicate needed 0)
 
 -- what holds of every buffer holds of each
 each : (n : ℕ) {Rule : ℕ → (Memory → List ℕ) → Type 0} → ((needed : ℕ) (buffer : Memory → List ℕ) → Rule needed buffer) → EachScratch n Rule
 each n rule =
     record {
-      of-lone = rule _ _;
-      of-counts = rule _ _;
-      of-sums = rule _ _;
-      of-positions = rule _ _;
-      of-order = rule _ _;
-      of-starts = rule _ _;
+      of_lone = rule _ _;
+      of_counts = rule _ _;
+      of_sums = rule _ _;
+      of_positions = rule _ _;
+      of_order = rule _ _;
+      of_starts = rule _ _;
     }
 
 module _ (w : ℕ) (keys : List ℕ) (m : Memory) where
@@ -38,85 +38,85 @@ module _ (w : ℕ) (keys : List ℕ) (m : Memory) where
   n = length keys
 
   -- what zeroing makes of every buffer it makes of each
-  scratch-is : (P : (needed : ℕ) (before after : List ℕ) → Type 0) → ((needed : ℕ) (before : List ℕ) → P needed before (zeroed needed before))
-      → (f : List ℕ) → EachScratch n (λ needed buffer. P needed (buffer m) (buffer (scratchZeroed n m f)))
-  scratch-is P rule f =
+  scratch_is : (P : (needed : ℕ) (before after : List ℕ) → Type 0) → ((needed : ℕ) (before : List ℕ) → P needed before (zeroed needed before))
+      → (f : List ℕ) → EachScratch n (λ needed buffer. P needed (buffer m) (buffer (scratch_zeroed n m f)))
+  scratch_is P rule f =
       record {
-        of-lone = rule (slotCountOf n) m.lone;
-        of-counts = rule (slotCountOf n) m.counts;
-        of-sums = rule (slotCountOf n) m.sums;
-        of-positions = rule n m.positions;
-        of-order = rule (n + 1) m.order;
-        of-starts = rule (bucketStartsOf n) m.starts;
+        of_lone = rule (slot_count_of n) m.lone;
+        of_counts = rule (slot_count_of n) m.counts;
+        of_sums = rule (slot_count_of n) m.sums;
+        of_positions = rule n m.positions;
+        of_order = rule (n + 1) m.order;
+        of_starts = rule (bucket_starts_of n) m.starts;
       }
 
-  scratch-is-zeroed : (f : List ℕ) → EachScratch n (λ needed buffer. ZeroedUpTo needed (buffer (scratchZeroed n m f)))
-  scratch-is-zeroed = scratch-is (λ needed before after. ZeroedUpTo needed after) zeroed-up-to
+  scratch_is_zeroed : (f : List ℕ) → EachScratch n (λ needed buffer. ZeroedUpTo needed (buffer (scratch_zeroed n m f)))
+  scratch_is_zeroed = scratch_is (λ needed before after. ZeroedUpTo needed after) zeroed_up_to
 
-  scratch-is-kept : (f : List ℕ) → EachScratch n (λ needed buffer. KeptBeyond needed (buffer m) (buffer (scratchZeroed n m f)))
-  scratch-is-kept = scratch-is KeptBeyond kept-beyond
+  scratch_is_kept : (f : List ℕ) → EachScratch n (λ needed buffer. KeptBeyond needed (buffer m) (buffer (scratch_zeroed n m f)))
+  scratch_is_kept = scratch_is KeptBeyond kept_beyond
 
-  refused-early : (k : ℕ) → k ≤ 4 → Leaves w keys m (refuses k) m
-  refused-early k small =
+  refused_early : (k : ℕ) → k ≤ 4 → Leaves w keys m (refuses k) m
+  refused_early k small =
       record {
-        all-unchanged = λ number e h. refl;
-        fingerprints-unchanged = λ e. refl;
-        fingerprints-zeroed = λ e. absurd (let z : k ≡ 6 = cc in omega arith);
-        fingerprints-written = λ s e. never (cc);
+        all_unchanged = λ number e h. refl;
+        fingerprints_unchanged = λ e. refl;
+        fingerprints_zeroed = λ e. absurd (let z : k ≡ 6 = cc in omega arith);
+        fingerprints_written = λ s e. never (cc);
         scratch-zeroed = λ later. absurd (let z = later k refl in omega arith);
-        fingerprints-beyond = refl;
-        scratch-beyond = each n (λ needed buffer. refl);
+        fingerprints_beyond = refl;
+        scratch_beyond = each n (λ needed buffer. refl);
       }
 
-  refused-repeated : let o = repeatedOutcome keys m in Leaves w keys m o.answer o.leaves
-  refused-repeated =
+  refused_repeated : let o = repeated_outcome keys m in Leaves w keys m o.answer o.leaves
+  refused_repeated =
       record {
-        all-unchanged = λ number e h. absurd (let z : ◌≡◌ {A = ℕ} 5 number = cc in omega arith);
-        fingerprints-unchanged = λ e. refl;
-        fingerprints-zeroed = λ e. absurd (let z : ◌≡◌ {A = ℕ} 5 6 = cc in omega arith);
-        fingerprints-written = λ s e. never (cc);
-        scratch-zeroed = λ later. scratch-is-zeroed _;
-        fingerprints-beyond = refl;
-        scratch-beyond = scratch-is-kept _;
+        all_unchanged = λ number e h. absurd (let z : ◌≡◌ {A = ℕ} 5 number = cc in omega arith);
+        fingerprints_unchanged = λ e. refl;
+        fingerprints_zeroed = λ e. absurd (let z : ◌≡◌ {A = ℕ} 5 6 = cc in omega arith);
+        fingerprints_written = λ s e. never (cc);
+        scratch-zeroed = λ later. scratch_is_zeroed _;
+        fingerprints_beyond = refl;
+        scratch_beyond = scratch_is_kept _;
       }
 
-  found_left : (found : ℕ) → let o = foundOutcome w keys found m in Leaves w keys m o.answer o.leaves
+  found_left : (found : ℕ) → let o = found_outcome w keys found m in Leaves w keys m o.answer o.leaves
   found_left zero =
       record {
-        all-unchanged = λ number e h. absurd (let z : ◌≡◌ {A = ℕ} 6 number = cc in omega arith);
-        fingerprints-unchanged = λ e. absurd (let z : ◌≡◌ {A = ℕ} 6 5 = cc in omega arith);
-        fingerprints-zeroed = λ e. zeroed-up-to (slotCountOf n) m.fingerprints;
-        fingerprints-written = λ s e. never (cc);
-        scratch-zeroed = λ later. scratch-is-zeroed _;
-        fingerprints-beyond = kept-beyond (slotCountOf n) m.fingerprints;
-        scratch-beyond = scratch-is-kept _;
+        all_unchanged = λ number e h. absurd (let z : ◌≡◌ {A = ℕ} 6 number = cc in omega arith);
+        fingerprints_unchanged = λ e. absurd (let z : ◌≡◌ {A = ℕ} 6 5 = cc in omega arith);
+        fingerprints_zeroed = λ e. zeroed_up_to (slot_count_of n) m.fingerprints;
+        fingerprints_written = λ s e. never (cc);
+        scratch-zeroed = λ later. scratch_is_zeroed _;
+        fingerprints_beyond = kept_beyond (slot_count_of n) m.fingerprints;
+        scratch_beyond = scratch_is_kept _;
       }
   found_left (suc k) =
-      let all = attempt-fingerprints-length w keys (suc k) in
+      let all = attempt_fingerprints_length w keys (suc k) in
       record {
-        all-unchanged = λ number e h. never (cc);
-        fingerprints-unchanged = λ e. never (cc);
-        fingerprints-zeroed = λ e. never (cc);
-        fingerprints-written = λ s e.
-            let z : success (descriptorAt n (suc k)) (slotCountOf n) (suc k) ≡ s = cc in
-            rw (← z) (take_at (fingerprintsAt w keys (suc k)) _ (slotCountOf n) all);
-        scratch-zeroed = λ later. scratch-is-zeroed _;
-        fingerprints-beyond = drop_at (fingerprintsAt w keys (suc k)) (drop (slotCountOf n) m.fingerprints) (slotCountOf n) all;
-        scratch-beyond = scratch-is-kept _;
+        all_unchanged = λ number e h. never (cc);
+        fingerprints_unchanged = λ e. never (cc);
+        fingerprints_zeroed = λ e. never (cc);
+        fingerprints_written = λ s e.
+            let z : success (descriptor_at n (suc k)) (slot_count_of n) (suc k) ≡ s = cc in
+            rw (← z) (take_at (fingerprints_at w keys (suc k)) _ (slot_count_of n) all);
+        scratch-zeroed = λ later. scratch_is_zeroed _;
+        fingerprints_beyond = drop_at (fingerprints_at w keys (suc k)) (drop (slot_count_of n) m.fingerprints) (slot_count_of n) all;
+        scratch_beyond = scratch_is_kept _;
       }
 
-  searched-left : (repeated : Bool) (found : ℕ)
-      → let o = cond repeated (repeatedOutcome keys m) (foundOutcome w keys found m) in Leaves w keys m o.answer o.leaves
-  searched-left true found = refused-repeated
-  searched-left false found = found_left found
+  searched_left : (repeated : Bool) (found : ℕ)
+      → let o = cond repeated (repeated_outcome keys m) (found_outcome w keys found m) in Leaves w keys m o.answer o.leaves
+  searched_left true found = refused_repeated
+  searched_left false found = found_left found
 
   checked-left : (checks : Answer Done) → ((k : ℕ) → checks ≡ refuses k → k ≤ 4) → (o : Outcome Success Memory) → Leaves w keys m o.answer o.leaves
-      → let u = unlessRefused checks m o in Leaves w keys m u.answer u.leaves
-  checked-left (refuses k) small o left = refused-early k (small k refl)
+      → let u = unless_refused checks m o in Leaves w keys m u.answer u.leaves
+  checked-left (refuses k) small o left = refused_early k (small k refl)
   checked-left (gives done) small o left = left
 
-  pub left-as-said : (limit first count : ℕ) (o : Outcome Success Memory) → o ≡ searchOf w keys limit first count m → Leaves w keys m o.answer o.leaves
-  unfolding searchOf
-  left-as-said limit first count o e =
+  pub left_as_said : (limit first count : ℕ) (o : Outcome Success Memory) → o ≡ search_of w keys limit first count m → Leaves w keys m o.answer o.leaves
+  unfolding search_of
+  left_as_said limit first count o e =
       rw e
-      (checked-left (checked n limit m) (up-to-four n limit _ _ _ _ _ _ _) _ (searched-left (repeats? keys) (firstFree (free keys) first count)))
+      (checked-left (checked n limit m) (up_to_four n limit _ _ _ _ _ _ _) _ (searched_left (repeats? keys) (first_free (free keys) first count)))

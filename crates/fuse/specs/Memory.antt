@@ -2,10 +2,10 @@
 -- that fingerprints of any width are counted alike. Assumes nothing.
 use Rattle.std.specs.Prelude.{Bool, ◌||◌, List, ◌++◌, ℕ, ◌+◌, length, drop, replicate, eqb, ltb}
 use Rattle.answers.specs.Answers.{Answer}
-use Rattle.answers.specs.Checks.{Done, refuseIf, ◌then◌}
-use Rattle.capacity.specs.Capacity.{maxKeys}
-use Rattle.layout.specs.Layout.{slotCountOf, bucketStartsOf}
-use Rattle.fuse.specs.Attempts.{maxAttempts}
+use Rattle.answers.specs.Checks.{Done, refuse_if, ◌then◌}
+use Rattle.capacity.specs.Capacity.{max_keys}
+use Rattle.layout.specs.Layout.{slot_count_of, bucket_starts_of}
+use Rattle.fuse.specs.Attempts.{max_attempts}
 
 -- fingerprints, and the scratch: lone list, touch counts, hash sums, positions, order, bucket starts
 pub record Memory : Type 0 where
@@ -23,20 +23,20 @@ memory f l c s p o b = record { fingerprints = f; lone = l; counts = c; sums = s
 -- "lone list A, touch counts A, hash sums A, positions n, order n + 1, bucket starts P": one of them is shorter
 abbrev pub short? : (n lone counts sums positions order starts : ℕ) → Bool
 short? n lone counts sums positions order starts =
-    ltb lone (slotCountOf n) || ltb counts (slotCountOf n) || ltb sums (slotCountOf n) || ltb positions n || ltb order (n + 1) || ltb starts (bucketStartsOf n)
+    ltb lone (slot_count_of n) || ltb counts (slot_count_of n) || ltb sums (slot_count_of n) || ltb positions n || ltb order (n + 1) || ltb starts (bucket_starts_of n)
 
 -- checks 1 to 4, of the number of keys, the attempt limit or number, and the lengths lent
-unfoldable pub checksOf : (n limit fingerprints lone counts sums positions order starts : ℕ) → Answer Done
-checksOf n limit fingerprints lone counts sums positions order starts =
-    refuseIf (ltb maxKeys n) 1
-    then refuseIf (eqb limit 0 || ltb maxAttempts limit) 2
-    then refuseIf (ltb fingerprints (slotCountOf n)) 3
-    then refuseIf (short? n lone counts sums positions order starts) 4
+unfoldable pub checks_of : (n limit fingerprints lone counts sums positions order starts : ℕ) → Answer Done
+checks_of n limit fingerprints lone counts sums positions order starts =
+    refuse_if (ltb max_keys n) 1
+    then refuse_if (eqb limit 0 || ltb max_attempts limit) 2
+    then refuse_if (ltb fingerprints (slot_count_of n)) 3
+    then refuse_if (short? n lone counts sums positions order starts) 4
 
 -- the same of the memory lent
 abbrev pub checked : (n limit : ℕ) → Memory → Answer Done
 checked n limit m =
-    checksOf n limit (length m.fingerprints) (length m.lone) (length m.counts) (length m.sums) (length m.positions) (length m.order)
+    checks_of n limit (length m.fingerprints) (length m.lone) (length m.counts) (length m.sums) (length m.positions) (length m.order)
     (length m.starts)
 
 -- the first n elements become these, the rest stays as it was
@@ -48,7 +48,7 @@ abbrev pub zeroed : (n : ℕ) (all : List ℕ) → List ℕ
 zeroed n all = begins n (replicate n 0) all
 
 -- "scratch zeroed means the needed part of each buffer; what lies beyond is never changed"
-abbrev pub scratchZeroed : (n : ℕ) → Memory → (fingerprints : List ℕ) → Memory
-scratchZeroed n m fingerprints =
-    memory fingerprints (zeroed (slotCountOf n) m.lone) (zeroed (slotCountOf n) m.counts) (zeroed (slotCountOf n) m.sums)
-    (zeroed n m.positions) (zeroed (n + 1) m.order) (zeroed (bucketStartsOf n) m.starts)
+abbrev pub scratch_zeroed : (n : ℕ) → Memory → (fingerprints : List ℕ) → Memory
+scratch_zeroed n m fingerprints =
+    memory fingerprints (zeroed (slot_count_of n) m.lone) (zeroed (slot_count_of n) m.counts) (zeroed (slot_count_of n) m.sums)
+    (zeroed n m.positions) (zeroed (n + 1) m.order) (zeroed (bucket_starts_of n) m.starts)

@@ -5,7 +5,7 @@ use Rattle.words.specs.Low.{low}
 use Rattle.answers.specs.Answers.{Answer, refuses, gives, Outcome, outcome}
 use Rattle.fuse.specs.Memory.{Memory, memory}
 use Rattle.fuse.specs.Build.{Success}
-use Rattle.fuse.specs.Query.{containsOf}
+use Rattle.fuse.specs.Query.{contains_of}
 
 -- ---- on memory that is alike
 
@@ -24,16 +24,16 @@ pub record NarrowerList (w v : ℕ) (slim wide : Outcome Success Memory) : Type 
   -- the same refusal, or the same descriptor, A and attempt number
   pub same_answer : slim.answer ≡ wide.answer
   -- after a success: the wider fingerprints modulo 2 ^ w are the narrower ones
-  pub fingerprints-modulo : (s : Success) → wide.answer ≡ gives s
+  pub fingerprints_modulo : (s : Success) → wide.answer ≡ gives s
       → low w (take s.slots wide.leaves.fingerprints) ≡ take s.slots slim.leaves.fingerprints
   -- and every yes of the wider list is a yes of the narrower, so that the wider has no needless flush of its own
-  pub yes-of-both : (s : Success) → wide.answer ≡ gives s → (key : ℕ)
-      → containsOf v s.descriptor (take s.slots wide.leaves.fingerprints) key ≡ gives true
-      → containsOf w s.descriptor (take s.slots slim.leaves.fingerprints) key ≡ gives true
+  pub yes_of_both : (s : Success) → wide.answer ≡ gives s → (key : ℕ)
+      → contains_of v s.descriptor (take s.slots wide.leaves.fingerprints) key ≡ gives true
+      → contains_of w s.descriptor (take s.slots slim.leaves.fingerprints) key ≡ gives true
 
 -- ---- the query
 
 -- what the narrower list answers beside what the wider answers
 pub record NarrowerAnswer (slim wide : Answer Bool) : Type 0 where
-  pub yes-kept : wide ≡ gives true → slim ≡ gives true
-  pub same-refusals : (number : ℕ) → (slim ≡ refuses number) ↔ (wide ≡ refuses number)
+  pub yes_kept : wide ≡ gives true → slim ≡ gives true
+  pub same_refusals : (number : ℕ) → (slim ≡ refuses number) ↔ (wide ≡ refuses number)

@@ -1,9 +1,9 @@
 // The attempts on a list of keys, by their numbers from 1.
 ghost use Rattle.std.specs.Prelude.{◌≡◌, ◌≤◌};
-ghost use Rattle.capacity.specs.Capacity.{maxKeys};
-ghost use Rattle.layout.specs.Layout.{slotCountOf};
-ghost use Rattle.peel.specs.Buffers.{picksIn};
-ghost use Rattle.fuse.specs.Attempts.{descriptorAt, picksAt};
+ghost use Rattle.capacity.specs.Capacity.{max_keys};
+ghost use Rattle.layout.specs.Layout.{slot_count_of};
+ghost use Rattle.peel.specs.Buffers.{picks_in};
+ghost use Rattle.fuse.specs.Attempts.{descriptor_at, picks_at};
 ghost use Rattle.fuse.specs.Seek.{CanAttempt};
 
 use arith::splitmix64::seed;
@@ -13,8 +13,8 @@ use peel::clear::{clear_u16, clear_u64};
 
 // A: how many slots n keys take.
 pub fn slots_for(n: u32) -> u32
-    requires { n ≤ maxKeys }
-    ensures { result ≡ slotCountOf n }
+    requires { n ≤ max_keys }
+    ensures { result ≡ slot_count_of n }
 {
     let layout = plain(n);
     layout.array_length
@@ -22,8 +22,8 @@ pub fn slots_for(n: u32) -> u32
 
 // The descriptor of an attempt on n keys: its seed, its layout, and the mask L - 1.
 pub fn descriptor_at(n: u32, attempt: u32) -> Descriptor
-    requires { n ≤ maxKeys }
-    ensures { result ≡ descriptorAt n attempt }
+    requires { n ≤ max_keys }
+    ensures { result ≡ descriptor_at n attempt }
 {
     let layout = layout_at(n, attempt);
     Descriptor {
@@ -45,7 +45,7 @@ pub fn try_attempt(
     order: &mut [u64],
 ) -> usize
     requires { CanAttempt keys.now lone.old counts.old sums.old positions.old order.old }
-    ensures { picksIn result order.new positions.new ≡ picksAt keys.now number }
+    ensures { picks_in result order.new positions.new ≡ picks_at keys.now number }
 {
     let d = descriptor_at(keys.len() as u32, number);
     let seed = d.seed;

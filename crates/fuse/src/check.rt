@@ -1,9 +1,9 @@
 // Checks 1 to 4, of the number of keys, the attempt limit or number, and the lengths of what is lent.
 ghost use Rattle.std.specs.Prelude.{◌≡◌, ◌≤◌};
-ghost use Rattle.capacity.specs.Capacity.{maxKeys};
-ghost use Rattle.layout.specs.Layout.{slotCountOf, bucketStartsOf};
-ghost use Rattle.descriptor.specs.Paper.{checkPaper};
-ghost use Rattle.fuse.specs.Memory.{short?, checksOf};
+ghost use Rattle.capacity.specs.Capacity.{max_keys};
+ghost use Rattle.layout.specs.Layout.{slot_count_of, bucket_starts_of};
+ghost use Rattle.descriptor.specs.Paper.{check_paper};
+ghost use Rattle.fuse.specs.Memory.{short?, checks_of};
 
 use crate::attempts::slots_for;
 use answers::Refusal;
@@ -26,7 +26,7 @@ fn short(
     order: usize,
     starts: usize,
 ) -> bool
-    requires { (n ≤ maxKeys) × (slots ≡ slotCountOf n) × (needed ≡ bucketStartsOf n) }
+    requires { (n ≤ max_keys) × (slots ≡ slot_count_of n) × (needed ≡ bucket_starts_of n) }
     ensures { result ≡ short? n lone counts sums positions order starts }
 {
     (lone < slots)
@@ -48,7 +48,7 @@ pub fn check(
     order: usize,
     starts: usize,
 ) -> CheckAnswer
-    ensures { checkPaper result ≡ checksOf n limit fingerprints lone counts sums positions order starts }
+    ensures { check_paper result ≡ checks_of n limit fingerprints lone counts sums positions order starts }
 {
     if n > MAX_KEYS as usize {
         return CheckAnswer::Refused(Refusal::TooManyKeys);

@@ -1,7 +1,7 @@
 // The layout of a filter for n keys: the segment length, the segment count and what follows from them.
 ghost use Rattle.std.specs.Prelude.{◌≡◌, ◌+◌, ◌*◌, ◌≤◌};
-ghost use Rattle.capacity.specs.Capacity.{maxKeys, maxCapacity};
-ghost use Rattle.layout.specs.Layout.{segmentLengthOf, count_of, layoutWith, maxSlots, maxStarts, plain_of, layout_of, powerAbove, bucketStartsOf};
+ghost use Rattle.capacity.specs.Capacity.{max_keys, max_capacity};
+ghost use Rattle.layout.specs.Layout.{segment_length_of, count_of, layout_with, max_slots, max_starts, plain_of, layout_of, power_above, bucket_starts_of};
 
 pub mod limits;
 
@@ -17,21 +17,21 @@ pub struct Layout {
 
 // `MAX_SLOTS` and `MAX_STARTS` are the numbers that the definitions name.
 pub fn max_slots() -> usize
-    ensures { result ≡ maxSlots }
+    ensures { result ≡ max_slots }
 {
     MAX_SLOTS
 }
 
 pub fn max_starts() -> usize
-    ensures { result ≡ maxStarts }
+    ensures { result ≡ max_starts }
 {
     MAX_STARTS
 }
 
 // L, by the sizes at which it doubles.
 pub fn segment_length(n: u32) -> u32
-    requires { n ≤ maxKeys }
-    ensures { result ≡ segmentLengthOf n }
+    requires { n ≤ max_keys }
+    ensures { result ≡ segment_length_of n }
 {
     if n < 3 {
         return 4;
@@ -59,7 +59,7 @@ pub fn segment_length(n: u32) -> u32
 
 // The segment count for the capacity c and segments of l slots.
 fn count(c: u32, l: u32) -> u32
-    requires { (c ≤ maxCapacity) × (1 ≤ l) × (l ≤ maxSlots) }
+    requires { (c ≤ max_capacity) × (1 ≤ l) × (l ≤ max_slots) }
     ensures { result ≡ count_of c l }
 {
     let segments = (c + (l - 1)) / l;
@@ -68,8 +68,8 @@ fn count(c: u32, l: u32) -> u32
 
 // The layout of segments of l slots: k in which a key starts, and two more that it reaches.
 fn with(l: u32, k: u32) -> Layout
-    requires { (1 ≤ l) × ((k + 2) * l ≤ maxSlots) }
-    ensures { result ≡ layoutWith l k }
+    requires { (1 ≤ l) × ((k + 2) * l ≤ max_slots) }
+    ensures { result ≡ layout_with l k }
 {
     Layout {
         segment_length: l,
@@ -81,7 +81,7 @@ fn with(l: u32, k: u32) -> Layout
 
 // The plain layout.
 pub fn plain(n: u32) -> Layout
-    requires { n ≤ maxKeys }
+    requires { n ≤ max_keys }
     ensures { result ≡ plain_of n }
 {
     let l = segment_length(n);
@@ -92,7 +92,7 @@ pub fn plain(n: u32) -> Layout
 
 // The layout of an attempt: the halved one on attempts 2, 6, 10 and so on, where there are more than four keys.
 pub fn layout_at(n: u32, attempt: u32) -> Layout
-    requires { n ≤ maxKeys }
+    requires { n ≤ max_keys }
     ensures { result ≡ layout_of n attempt }
 {
     let p = plain(n);
@@ -107,8 +107,8 @@ pub fn layout_at(n: u32, attempt: u32) -> Layout
 
 // The smallest power of two, at least 2, that is not below k.
 fn power_above(k: u32) -> u32
-    requires { k ≤ maxSlots }
-    ensures { result ≡ powerAbove k }
+    requires { k ≤ max_slots }
+    ensures { result ≡ power_above k }
 {
     let mut p: u32 = 2;
     while p < k {
@@ -119,8 +119,8 @@ fn power_above(k: u32) -> u32
 
 // P: how many bucket starts are asked for, for n keys. No layout has more segments than that of attempt 2.
 pub fn bucket_starts(n: u32) -> u32
-    requires { n ≤ maxKeys }
-    ensures { result ≡ bucketStartsOf n }
+    requires { n ≤ max_keys }
+    ensures { result ≡ bucket_starts_of n }
 {
     let layout = layout_at(n, 2);
     power_above(layout.segment_count)

@@ -3,17 +3,17 @@
 -- at position 1; slot 8 is stacked, then slot 0. There key 1 goes at position 0. Slots 8 and 5 are then touched no more. Assumes nothing.
 use Rattle.std.specs.Prelude.{◌≡◌, refl, [], ◌∷◌}
 use Rattle.stuck.specs.Stuck.{key, pick}
-use Rattle.stuck.specs.Cases.{two-alike, square, three-of-it}
-use Rattle.machine.specs.Machine.{share, totalAll, table, sumsOf, change, changeAt, pushIf, scan, release, takeKey, atSlot, pop, takes, picksFrom, picks_of}
+use Rattle.stuck.specs.Cases.{two_alike, square, three_of_it}
+use Rattle.machine.specs.Machine.{share, total_all, table, sums_of, change, change_at, push_if, scan, release, take_key, at_slot, pop, takes, picks_from, picks_of}
 
-pub C12-run : picks_of (key three-of-it) 12 (0 ∷ 1 ∷ 2 ∷ []) ≡ pick 2 2 ∷ pick 0 1 ∷ pick 1 0 ∷ []
-unfolding picksFrom takes pop atSlot takeKey release changeAt change pushIf scan sumsOf table totalAll share
-C12-run = refl
+pub C12_run : picks_of (key three_of_it) 12 (0 ∷ 1 ∷ 2 ∷ []) ≡ pick 2 2 ∷ pick 0 1 ∷ pick 1 0 ∷ []
+unfolding picks_from takes pop at_slot take_key release change_at change push_if scan sums_of table total_all share
+C12_run = refl
 
-pub C11-run : picks_of (key square) 12 (0 ∷ 1 ∷ 2 ∷ 3 ∷ []) ≡ []
-unfolding picksFrom takes pop atSlot takeKey release changeAt change pushIf scan sumsOf table totalAll share
-C11-run = refl
+pub C11_run : picks_of (key square) 12 (0 ∷ 1 ∷ 2 ∷ 3 ∷ []) ≡ []
+unfolding picks_from takes pop at_slot take_key release change_at change push_if scan sums_of table total_all share
+C11_run = refl
 
-pub C10-run : picks_of (key two-alike) 12 (0 ∷ 1 ∷ []) ≡ []
-unfolding picksFrom takes pop atSlot takeKey release changeAt change pushIf scan sumsOf table totalAll share
-C10-run = refl
+pub C10_run : picks_of (key two_alike) 12 (0 ∷ 1 ∷ []) ≡ []
+unfolding picks_from takes pop at_slot take_key release change_at change push_if scan sums_of table total_all share
+C10_run = refl

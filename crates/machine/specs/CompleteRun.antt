@@ -11,18 +11,18 @@ use Rattle.std.proofs.Math.Facts.{yes_eqb}
 use Rattle.stuck.specs.Stuck.{Slots, KeySet, slot_at, key, Alone, NoneAlone, without, Removable, Pick, pick, done, remove, Complete}
 use Rattle.stuck.specs.Sets.{has-lt}
 use Rattle.stuck.specs.KeyMap.{key-map}
-use Rattle.stuck.specs.Touching.{touched-at}
-use Rattle.stuck.specs.TouchCount.{count-of-alone}
-use Rattle.stuck.specs.Ring.{Apart, slot-below}
-use Rattle.machine.specs.Machine.{Sums, State, takeKey, atSlot, pop, takes}
-use Rattle.machine.specs.KnownOf.{touching-is, Sole}
+use Rattle.stuck.specs.Touching.{touched_at}
+use Rattle.stuck.specs.TouchCount.{count_of_alone}
+use Rattle.stuck.specs.Ring.{Apart, slot_below}
+use Rattle.machine.specs.Machine.{Sums, State, take_key, at_slot, pop, takes}
+use Rattle.machine.specs.KnownOf.{touching_is, Sole}
 use Rattle.machine.specs.Work.{many, take-work}
-use Rattle.machine.specs.Standing.{Standing, dropped, its-key, hash-is, position-is, standing-after}
+use Rattle.machine.specs.Standing.{Standing, dropped, its_key, hash_is, position_is, standing_after}
 
 -- the keys of a run by their hashes
-abbrev pub byHash : List ℕ → List Pick → List Pick
-byHash hs [] = []
-byHash hs (pick i p ∷ r) = pick (get_or hs i 0) p ∷ byHash hs r
+abbrev pub by_hash : List ℕ → List Pick → List Pick
+by_hash hs [] = []
+by_hash hs (pick i p ∷ r) = pick (get_or hs i 0) p ∷ by_hash hs r
 
 module _ (slots : ℕ → Slots) (hs : List ℕ) where
   -- `out` is a complete run from the keys of m, its keys written by their hashes
@@ -30,7 +30,7 @@ module _ (slots : ℕ → Slots) (hs : List ℕ) where
     pub picks : List Pick
     pub left : KeySet
     pub complete : Complete (map slots hs) m picks left
-    pub is : out ≡ byHash hs picks
+    pub is : out ≡ by_hash hs picks
 
   goes_on : (m : KeySet) (s : ℕ) (k : Sole slots hs m s) (out : List Pick) → IsCompleteRun (without m k.i) out
       → IsCompleteRun m (pick (get_or hs k.i 0) k.place.position ∷ out)
@@ -52,9 +52,9 @@ module _ (slots : ℕ → Slots) (hs : List ℕ) where
 
 module _ (slots : ℕ → Slots) (hs : List ℕ) (n : ℕ) (apart : (i : ℕ) → i < length hs → Apart n (slots (get_or hs i 0))) where
   -- the stack is empty: no key can go
-  none-alone : (m : KeySet) (a : Sums) → Standing slots hs n m a [] → NoneAlone (map slots hs) m
-  none-alone m a k i s al =
-      Memᴰ.not-nil (k.stacked s inside (touching-is slots hs m s ∙ count-of-alone keys m (k.marks ∙ sym (length-map hs slots)) i s al))
+  none_alone : (m : KeySet) (a : Sums) → Standing slots hs n m a [] → NoneAlone (map slots hs) m
+  none_alone m a k i s al =
+      Memᴰ.not-nil (k.stacked s inside (touching_is slots hs m s ∙ count_of_alone keys m (k.marks ∙ sym (length-map hs slots)) i s al))
     where
       keys : List Slots
       keys = map slots hs
@@ -62,22 +62,22 @@ module _ (slots : ℕ → Slots) (hs : List ℕ) (n : ℕ) (apart : (i : ℕ) �
       low : i < length hs
       low = omega (arith, has-lt m i al.has, k.marks)
 
-      its-slots : Apart n (key keys i)
-      its-slots = rw (key-map slots hs i low) (apart i low)
+      its_slots : Apart n (key keys i)
+      its_slots = rw (key-map slots hs i low) (apart i low)
 
       inside : s < n
-      inside = let w = touched-at (key keys i) s al.touch in subst (λ (x : ℕ). x < n) w.2 (slot-below n (key keys i) its-slots w.0)
+      inside = let w = touched_at (key keys i) s al.touch in subst (λ (x : ℕ). x < n) w.2 (slot_below n (key keys i) its_slots w.0)
 
   ends : (m : KeySet) (a : Sums) → Standing slots hs n m a [] → IsCompleteRun slots hs m []
-  ends m a k = record { picks = []; left = m; complete = record { run = done; stops = none-alone m a k }; is = refl }
+  ends m a k = record { picks = []; left = m; complete = record { run = done; stops = none_alone m a k }; is = refl }
 
-  pub takes-complete : (turns : ℕ) (m : KeySet) (a : Sums) (stack : List ℕ) → Standing slots hs n m a stack → length stack + many a.counts ≤ turns
+  pub takes_complete : (turns : ℕ) (m : KeySet) (a : Sums) (stack : List ℕ) → Standing slots hs n m a stack → length stack + many a.counts ≤ turns
       → IsCompleteRun slots hs m (takes slots turns (record { sums = a; stack = stack }))
-  unfolding takes pop atSlot
-  takes-complete zero m a [] k le = ends m a k
-  takes-complete zero m a (s ∷ stack) k le = absurd (omega arith)
-  takes-complete (suc turns) m a [] k le = ends m a k
-  takes-complete (suc turns) m a (s ∷ stack) k le = by (eqb (get_or a.counts s 0) 1) refl (takes-complete turns)
+  unfolding takes pop at_slot
+  takes_complete zero m a [] k le = ends m a k
+  takes_complete zero m a (s ∷ stack) k le = absurd (omega arith)
+  takes_complete (suc turns) m a [] k le = ends m a k
+  takes_complete (suc turns) m a (s ∷ stack) k le = by (eqb (get_or a.counts s 0) 1) refl (takes_complete turns)
     where
       st : State
       st = record { sums = a; stack = stack }
@@ -85,25 +85,25 @@ module _ (slots : ℕ → Slots) (hs : List ℕ) (n : ℕ) (apart : (i : ℕ) �
       by : (b : Bool) → eqb (get_or a.counts s 0) 1 ≡ b
           → ((m' : KeySet) (a' : Sums) (stack' : List ℕ) → Standing slots hs n m' a' stack' → length stack' + many a'.counts ≤ turns
           → IsCompleteRun slots hs m' (takes slots turns (record { sums = a'; stack = stack' })))
-          → IsCompleteRun slots hs m (atSlot slots b s st (λ x. takes slots turns x))
+          → IsCompleteRun slots hs m (at_slot slots b s st (λ x. takes slots turns x))
       by false e later = later m a stack (dropped slots hs n m a s stack k (λ one. subst T e (yes_eqb one))) (omega arith)
       by true e later =
-          subst₂ (λ (x y : ℕ). IsCompleteRun slots hs m (pick x y ∷ takes slots turns (takeKey (slots x) x y st))) (sym (hash-is slots hs n apart m a s stack k one))
-          (sym (position-is slots hs n apart m a s stack k one)) (goes_on slots hs m s who (takes slots turns after) rest)
+          subst₂ (λ (x y : ℕ). IsCompleteRun slots hs m (pick x y ∷ takes slots turns (take_key (slots x) x y st))) (sym (hash_is slots hs n apart m a s stack k one))
+          (sym (position_is slots hs n apart m a s stack k one)) (goes_on slots hs m s who (takes slots turns after) rest)
         where
           one : get_or a.counts s 0 ≡ 1
           one = eqb→eq _ _ (rw e tt)
 
           who : Sole slots hs m s
-          who = its-key slots hs n apart m a s stack k one
+          who = its_key slots hs n apart m a s stack k one
 
           h : ℕ
           h = get_or hs who.i 0
 
           after : State
-          after = takeKey (slots h) h who.place.position st
+          after = take_key (slots h) h who.place.position st
 
           rest : IsCompleteRun slots hs (without m who.i) (takes slots turns after)
           rest =
-              later (without m who.i) after.sums after.stack (standing-after slots hs n apart m a s stack k one)
+              later (without m who.i) after.sums after.stack (standing_after slots hs n apart m a s stack k one)
               (omega (arith, take-work (slots h) h who.place.position st))

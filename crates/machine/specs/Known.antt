@@ -2,7 +2,7 @@
 use Rattle.std.specs.Prelude.{◌≡◌, ◌≢◌, List, ℕ, ◌<◌, length, get_or}
 use Rattle.std.proofs.Common.{sym, ap, ◌∙◌, arith, length-set, get_or-set_other, get_or-set_same, ext_get_or}
 use Rattle.std.specs.Int.Bits.{bit_xor}
-use Rattle.machine.specs.Machine.{Sums, change, changeAt}
+use Rattle.machine.specs.Machine.{Sums, change, change_at}
 
 pub record Known : Type 0 where
   pub count : ℕ
@@ -19,19 +19,19 @@ moved f h q k = record { count = f k.count; hash = bit_xor k.hash h; position = 
 
 -- the sums are of n slots
 pub record Long (n : ℕ) (a : Sums) : Type 0 where
-  pub in-counts : length a.counts ≡ n
-  pub in-hashes : length a.hashes ≡ n
-  pub in-positions : length a.positions ≡ n
+  pub in_counts : length a.counts ≡ n
+  pub in_hashes : length a.hashes ≡ n
+  pub in_positions : length a.positions ≡ n
 
-same-list : (n : ℕ) (l k : List ℕ) → length l ≡ n → length k ≡ n → ((s : ℕ) → s < n → get_or l s 0 ≡ get_or k s 0) → l ≡ k
-same-list n l k long-l long-k e = ext_get_or 0 l k (long-l ∙ sym long-k) (λ s lt. e s (omega arith))
+same_list : (n : ℕ) (l k : List ℕ) → length l ≡ n → length k ≡ n → ((s : ℕ) → s < n → get_or l s 0 ≡ get_or k s 0) → l ≡ k
+same_list n l k long-l long-k e = ext_get_or 0 l k (long-l ∙ sym long-k) (λ s lt. e s (omega arith))
 
 -- sums that know the same are the same
 pub sums_same : (n : ℕ) (a b : Sums) → Long n a → Long n b → ((s : ℕ) → s < n → known_at a s ≡ known_at b s) → a ≡ b
 sums_same n a b la lb e = λ i. record {
-  counts = same-list n a.counts b.counts la.in-counts lb.in-counts (λ s lt. ap (λ (k : Known). k.count) (e s lt)) i;
-  hashes = same-list n a.hashes b.hashes la.in-hashes lb.in-hashes (λ s lt. ap (λ (k : Known). k.hash) (e s lt)) i;
-  positions = same-list n a.positions b.positions la.in-positions lb.in-positions (λ s lt. ap (λ (k : Known). k.position) (e s lt)) i;
+  counts = same_list n a.counts b.counts la.in_counts lb.in_counts (λ s lt. ap (λ (k : Known). k.count) (e s lt)) i;
+  hashes = same_list n a.hashes b.hashes la.in_hashes lb.in_hashes (λ s lt. ap (λ (k : Known). k.hash) (e s lt)) i;
+  positions = same_list n a.positions b.positions la.in_positions lb.in_positions (λ s lt. ap (λ (k : Known). k.position) (e s lt)) i;
 }
 
 -- ---- one list
@@ -40,38 +40,38 @@ pub change-length : (f : ℕ → ℕ) (s : ℕ) (l : List ℕ) → length (chang
 unfolding change
 change-length f s l = length-set l s (f (get_or l s 0))
 
-pub change-here : (f : ℕ → ℕ) (s : ℕ) (l : List ℕ) → s < length l → get_or (change f s l) s 0 ≡ f (get_or l s 0)
+pub change_here : (f : ℕ → ℕ) (s : ℕ) (l : List ℕ) → s < length l → get_or (change f s l) s 0 ≡ f (get_or l s 0)
 unfolding change
-change-here f s l h = get_or-set_same l s (f (get_or l s 0)) 0 h
+change_here f s l h = get_or-set_same l s (f (get_or l s 0)) 0 h
 
-pub change-other : (f : ℕ → ℕ) (s : ℕ) (l : List ℕ) (x : ℕ) → x ≢ s → get_or (change f s l) x 0 ≡ get_or l x 0
+pub change_other : (f : ℕ → ℕ) (s : ℕ) (l : List ℕ) (x : ℕ) → x ≢ s → get_or (change f s l) x 0 ≡ get_or l x 0
 unfolding change
-change-other f s l x ne = get_or-set_other l s x (f (get_or l s 0)) 0 ne
+change_other f s l x ne = get_or-set_other l s x (f (get_or l s 0)) 0 ne
 
 -- ---- the three lists
 
 module _ (f : ℕ → ℕ) (h q s : ℕ) (a : Sums) where
-  pub changed-long : (n : ℕ) → Long n a → Long n (changeAt f h q s a)
-  unfolding changeAt
-  changed-long n long =
+  pub changed_long : (n : ℕ) → Long n a → Long n (change_at f h q s a)
+  unfolding change_at
+  changed_long n long =
       record {
-        in-counts = change-length f s a.counts ∙ long.in-counts;
-        in-hashes = change-length (λ x. bit_xor x h) s a.hashes ∙ long.in-hashes;
-        in-positions = change-length (λ x. bit_xor x q) s a.positions ∙ long.in-positions;
+        in_counts = change-length f s a.counts ∙ long.in_counts;
+        in_hashes = change-length (λ x. bit_xor x h) s a.hashes ∙ long.in_hashes;
+        in_positions = change-length (λ x. bit_xor x q) s a.positions ∙ long.in_positions;
       }
 
-  pub changed-here : (n : ℕ) → Long n a → s < n → known_at (changeAt f h q s a) s ≡ moved f h q (known_at a s)
-  unfolding changeAt
-  changed-here n long lt = λ i. record {
-    count = change-here f s a.counts (omega (arith, long.in-counts)) i;
-    hash = change-here (λ x. bit_xor x h) s a.hashes (omega (arith, long.in-hashes)) i;
-    position = change-here (λ x. bit_xor x q) s a.positions (omega (arith, long.in-positions)) i;
+  pub changed_here : (n : ℕ) → Long n a → s < n → known_at (change_at f h q s a) s ≡ moved f h q (known_at a s)
+  unfolding change_at
+  changed_here n long lt = λ i. record {
+    count = change_here f s a.counts (omega (arith, long.in_counts)) i;
+    hash = change_here (λ x. bit_xor x h) s a.hashes (omega (arith, long.in_hashes)) i;
+    position = change_here (λ x. bit_xor x q) s a.positions (omega (arith, long.in_positions)) i;
   }
 
-  pub changed-other : (x : ℕ) → x ≢ s → known_at (changeAt f h q s a) x ≡ known_at a x
-  unfolding changeAt
-  changed-other x ne = λ i. record {
-    count = change-other f s a.counts x ne i;
-    hash = change-other (λ y. bit_xor y h) s a.hashes x ne i;
-    position = change-other (λ y. bit_xor y q) s a.positions x ne i;
+  pub changed_other : (x : ℕ) → x ≢ s → known_at (change_at f h q s a) x ≡ known_at a x
+  unfolding change_at
+  changed_other x ne = λ i. record {
+    count = change_other f s a.counts x ne i;
+    hash = change_other (λ y. bit_xor y h) s a.hashes x ne i;
+    position = change_other (λ y. bit_xor y q) s a.positions x ne i;
   }

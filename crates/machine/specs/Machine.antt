@@ -18,9 +18,9 @@ unfoldable pub share : Slots → ℕ → (ℕ → ℕ) → ℕ
 share t s g = cond (eqb t.s0 s) (g 0) (cond (eqb t.s1 s) (g 1) (cond (eqb t.s2 s) (g 2) 0))
 
 -- the total, under an operation, of what all the keys give
-unfoldable pub totalAll : (ℕ → ℕ → ℕ) → (ℕ → ℕ) → List ℕ → ℕ
-totalAll op f [] = 0
-totalAll op f (h ∷ hs) = op (f h) (totalAll op f hs)
+unfoldable pub total_all : (ℕ → ℕ → ℕ) → (ℕ → ℕ) → List ℕ → ℕ
+total_all op f [] = 0
+total_all op f (h ∷ hs) = op (f h) (total_all op f hs)
 
 -- the list f at, f (at + 1), .. of n numbers
 unfoldable pub table : ℕ → ℕ → (ℕ → ℕ) → List ℕ
@@ -29,11 +29,11 @@ table at (suc n) f = f at ∷ table (suc at) n f
 
 -- for each of n slots the total, over the keys with the hashes hs that touch it, of `g` of their hash and position
 abbrev pub totals : (ℕ → Slots) → ℕ → (ℕ → ℕ → ℕ) → (ℕ → ℕ → ℕ) → List ℕ → List ℕ
-totals slots n op g hs = table 0 n (λ s. totalAll op (λ h. share (slots h) s (g h)) hs)
+totals slots n op g hs = table 0 n (λ s. total_all op (λ h. share (slots h) s (g h)) hs)
 
 -- the sums of the keys with the hashes hs, over n slots
-unfoldable pub sumsOf : (ℕ → Slots) → ℕ → List ℕ → Sums
-sumsOf slots n hs =
+unfoldable pub sums_of : (ℕ → Slots) → ℕ → List ℕ → Sums
+sums_of slots n hs =
     record {
       counts = totals slots n ◌+◌ (λ h q. 1) hs;
       hashes = totals slots n bit_xor (λ h q. h) hs;
@@ -46,8 +46,8 @@ unfoldable pub change : (ℕ → ℕ) → ℕ → List ℕ → List ℕ
 change f s l = set l s (f (get_or l s 0))
 
 -- slot s: its count by `f`, the hash h and the position q xored in (or out: xor undoes itself)
-unfoldable pub changeAt : (ℕ → ℕ) → ℕ → ℕ → ℕ → Sums → Sums
-changeAt f h q s a =
+unfoldable pub change_at : (ℕ → ℕ) → ℕ → ℕ → ℕ → Sums → Sums
+change_at f h q s a =
     record {
       counts = change f s a.counts;
       hashes = change (λ x. bit_xor x h) s a.hashes;
@@ -61,35 +61,35 @@ pub record State : Type 0 where
   pub sums : Sums
   pub stack : List ℕ
 
-unfoldable pub pushIf : Bool → ℕ → List ℕ → List ℕ
-pushIf true s stack = s ∷ stack
-pushIf false s stack = stack
+unfoldable pub push_if : Bool → ℕ → List ℕ → List ℕ
+push_if true s stack = s ∷ stack
+push_if false s stack = stack
 
 -- "slots are scanned upward and those touched once are stacked"; the scan stands at slot `at`
 unfoldable pub scan : ℕ → List ℕ → List ℕ → List ℕ
 scan at [] stack = stack
-scan at (c ∷ cs) stack = scan (suc at) cs (pushIf (eqb c 1) at stack)
+scan at (c ∷ cs) stack = scan (suc at) cs (push_if (eqb c 1) at stack)
 
 -- the key with hash h is released from slot s, its position q: "a slot whose count falls from two to one is stacked"
 unfoldable pub release : ℕ → ℕ → ℕ → State → State
-release h q s st = record { sums = changeAt (λ c. c - 1) h q s st.sums; stack = pushIf (eqb (get_or st.sums.counts s 0) 2) s st.stack }
+release h q s st = record { sums = change_at (λ c. c - 1) h q s st.sums; stack = push_if (eqb (get_or st.sums.counts s 0) 2) s st.stack }
 
 -- the key with hash h is taken at position p: "the key's other slots are released, position p+1 then p+2, modulo 3"
-unfoldable pub takeKey : Slots → ℕ → ℕ → State → State
-takeKey t h p st = release h (next (next p)) (slot_at t (next (next p))) (release h (next p) (slot_at t (next p)) st)
+unfoldable pub take_key : Slots → ℕ → ℕ → State → State
+take_key t h p st = release h (next (next p)) (slot_at t (next (next p))) (release h (next p) (slot_at t (next p)) st)
 
 -- slot s was popped: "if it is still touched once, its key is taken there"
-unfoldable pub atSlot : (ℕ → Slots) → Bool → ℕ → State → (State → List Pick) → List Pick
-atSlot slots true s st again =
+unfoldable pub at_slot : (ℕ → Slots) → Bool → ℕ → State → (State → List Pick) → List Pick
+at_slot slots true s st again =
     let h = get_or st.sums.hashes s 0 in
     let p = get_or st.sums.positions s 0 in
-    pick h p ∷ again (takeKey (slots h) h p st)
-atSlot slots false s st again = again st
+    pick h p ∷ again (take_key (slots h) h p st)
+at_slot slots false s st again = again st
 
 -- "the last one stacked is popped first"
 unfoldable pub pop : (ℕ → Slots) → Sums → List ℕ → (State → List Pick) → List Pick
 pop slots a [] again = []
-pop slots a (s ∷ stack) again = atSlot slots (eqb (get_or a.counts s 0) 1) s (record { sums = a; stack = stack }) again
+pop slots a (s ∷ stack) again = at_slot slots (eqb (get_or a.counts s 0) 1) s (record { sums = a; stack = stack }) again
 
 -- the keys that are taken, the first taken first: a `pick` holds the hash of a key here, and its position; at most `turns` slots are popped
 unfoldable pub takes : (ℕ → Slots) → ℕ → State → List Pick
@@ -97,12 +97,12 @@ takes slots zero st = []
 takes slots (suc turns) st = pop slots st.sums st.stack (λ st'. takes slots turns st')
 
 -- the whole attempt, from the sums (no slot is stacked twice, so that as many turns as slots are enough)
-unfoldable pub picksFrom : (ℕ → Slots) → Sums → List Pick
-picksFrom slots a = takes slots (length a.counts) (record { sums = a; stack = scan 0 a.counts [] })
+unfoldable pub picks_from : (ℕ → Slots) → Sums → List Pick
+picks_from slots a = takes slots (length a.counts) (record { sums = a; stack = scan 0 a.counts [] })
 
 -- and from the hashes
 abbrev pub picks_of : (ℕ → Slots) → ℕ → List ℕ → List Pick
-picks_of slots n hs = picksFrom slots (sumsOf slots n hs)
+picks_of slots n hs = picks_from slots (sums_of slots n hs)
 
 -- ---- the fingerprints
 

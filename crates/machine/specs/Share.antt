@@ -5,9 +5,9 @@ use Rattle.stuck.specs.Total.{bit}
 use Rattle.stuck.specs.Stuck.{Slots, slot_at, touches}
 use Rattle.machine.specs.Machine.{share}
 
-pub share-off : (t : Slots) (s : ℕ) (g : ℕ → ℕ) → ¬ T (touches t s) → share t s g ≡ 0
+pub share_off : (t : Slots) (s : ℕ) (g : ℕ → ℕ) → ¬ T (touches t s) → share t s g ≡ 0
 unfolding share
-share-off t s g = by (eqb t.s0 s) (eqb t.s1 s) (eqb t.s2 s)
+share_off t s g = by (eqb t.s0 s) (eqb t.s1 s) (eqb t.s2 s)
   where
     by : (a b c : Bool) → ¬ T (a || b || c) → cond a (g 0) (cond b (g 1) (cond c (g 2) 0)) ≡ 0
     by true b c off = absurd (off tt)
@@ -15,9 +15,9 @@ share-off t s g = by (eqb t.s0 s) (eqb t.s1 s) (eqb t.s2 s)
     by false false true off = absurd (off tt)
     by false false false off = refl
 
-pub share-one : (t : Slots) (s : ℕ) → share t s (λ q. 1) ≡ bit (touches t s)
+pub share_one : (t : Slots) (s : ℕ) → share t s (λ q. 1) ≡ bit (touches t s)
 unfolding share
-share-one t s = by (eqb t.s0 s) (eqb t.s1 s) (eqb t.s2 s)
+share_one t s = by (eqb t.s0 s) (eqb t.s1 s) (eqb t.s2 s)
   where
     by : (a b c : Bool) → cond a 1 (cond b 1 (cond c 1 0)) ≡ bit (a || b || c)
     by true b c = refl

@@ -7,7 +7,7 @@ use mathlib.Core.List.Memᴰ
 use mathlib.Core.List.{List, [], ◌∷◌, Memᴰ}
 use native.Mathlib.Omega.{arith}
 use Rattle.stuck.specs.Total.{bit}
-use Rattle.machine.specs.Machine.{pushIf}
+use Rattle.machine.specs.Machine.{push_if}
 
 -- slot s is on the stack
 abbrev pub Stacked : ℕ → List ℕ → Type 0
@@ -19,28 +19,28 @@ Once [] = Unit {0}
 Once (s ∷ stack) = (¬ Stacked s stack) × Once stack
 
 module _ (s : ℕ) (stack : List ℕ) where
-  pub push-length : (b : Bool) → length (pushIf b s stack) ≡ bit b + length stack
-  unfolding pushIf
-  push-length true = omega arith
-  push-length false = omega arith
+  pub push_length : (b : Bool) → length (push_if b s stack) ≡ bit b + length stack
+  unfolding push_if
+  push_length true = omega arith
+  push_length false = omega arith
 
-  pub push-keeps : (b : Bool) (x : ℕ) → Stacked x stack → Stacked x (pushIf b s stack)
-  unfolding pushIf
-  push-keeps true x z = Memᴰ.tail z
-  push-keeps false x z = z
+  pub push_keeps : (b : Bool) (x : ℕ) → Stacked x stack → Stacked x (push_if b s stack)
+  unfolding push_if
+  push_keeps true x z = Memᴰ.tail z
+  push_keeps false x z = z
 
-  pub push-there : (b : Bool) → T b → Stacked s (pushIf b s stack)
-  unfolding pushIf
-  push-there true t = Memᴰ.head refl
-  push-there false t = absurd t
+  pub push_there : (b : Bool) → T b → Stacked s (push_if b s stack)
+  unfolding push_if
+  push_there true t = Memᴰ.head refl
+  push_there false t = absurd t
 
   -- what is stacked was pushed now, under the test, or was stacked before
-  pub push-from : (b : Bool) (x : ℕ) → Stacked x (pushIf b s stack) → ((x ≡ s) × T b) ⊎ Stacked x stack
-  unfolding pushIf
-  push-from true x z = elim (Memᴰ.cases_cons z) [ inl e ↦ inl (e, tt) | inr old ↦ inr old ]
-  push-from false x z = inr z
+  pub push_from : (b : Bool) (x : ℕ) → Stacked x (push_if b s stack) → ((x ≡ s) × T b) ⊎ Stacked x stack
+  unfolding push_if
+  push_from true x z = elim (Memᴰ.cases_cons z) [ inl e ↦ inl (e, tt) | inr old ↦ inr old ]
+  push_from false x z = inr z
 
-  pub push-once : (b : Bool) → (T b → ¬ Stacked s stack) → Once stack → Once (pushIf b s stack)
-  unfolding pushIf
-  push-once true new once = (new tt, once)
-  push-once false new once = once
+  pub push_once : (b : Bool) → (T b → ¬ Stacked s stack) → Once stack → Once (push_if b s stack)
+  unfolding push_if
+  push_once true new once = (new tt, once)
+  push_once false new once = once

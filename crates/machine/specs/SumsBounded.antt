@@ -10,23 +10,23 @@ use Rattle.std.specs.Int.Bits.{bit_xor}
 use Rattle.std.proofs.lemmas.Nat.{xor_lt}
 use Rattle.std.proofs.Math.Dec.{lit<}
 use Rattle.stuck.specs.Stuck.{Slots}
-use Rattle.machine.specs.Machine.{share, totalAll, table, sumsOf}
+use Rattle.machine.specs.Machine.{share, total_all, table, sums_of}
 use Rattle.machine.specs.Start.{table_at, table-length}
 
-total_at_most : (f : ℕ → ℕ) → ((h : ℕ) → f h ≤ 1) → (hs : List ℕ) → totalAll ◌+◌ f hs ≤ length hs
-unfolding totalAll
+total_at_most : (f : ℕ → ℕ) → ((h : ℕ) → f h ≤ 1) → (hs : List ℕ) → total_all ◌+◌ f hs ≤ length hs
+unfolding total_all
 total_at_most f one [] = omega arith
 total_at_most f one (h ∷ hs) = omega (arith, total_at_most f one hs, one h)
 
-total-below : (f : ℕ → ℕ) (width : ℕ) (hs : List ℕ) → ((i : ℕ) → i < length hs → f (get_or hs i 0) < 2 ^ width) → totalAll bit_xor f hs < 2 ^ width
-unfolding totalAll
-total-below f width [] small = pow_pos width
-total-below f width (h ∷ hs) small =
-    xor_lt width (f h) (totalAll bit_xor f hs) (small 0 (suc-le-suc zero-le)) (total-below f width hs (λ i lt. small (suc i) (suc-le-suc lt)))
+total_below : (f : ℕ → ℕ) (width : ℕ) (hs : List ℕ) → ((i : ℕ) → i < length hs → f (get_or hs i 0) < 2 ^ width) → total_all bit_xor f hs < 2 ^ width
+unfolding total_all
+total_below f width [] small = pow_pos width
+total_below f width (h ∷ hs) small =
+    xor_lt width (f h) (total_all bit_xor f hs) (small 0 (suc-le-suc zero-le)) (total_below f width hs (λ i lt. small (suc i) (suc-le-suc lt)))
 
-share-below : (t : Slots) (s : ℕ) (g : ℕ → ℕ) (bound : ℕ) → 0 < bound → ((q : ℕ) → q < 3 → g q < bound) → share t s g < bound
+share_below : (t : Slots) (s : ℕ) (g : ℕ → ℕ) (bound : ℕ) → 0 < bound → ((q : ℕ) → q < 3 → g q < bound) → share t s g < bound
 unfolding share
-share-below t s g bound pos small = by (eqb t.s0 s) (eqb t.s1 s) (eqb t.s2 s)
+share_below t s g bound pos small = by (eqb t.s0 s) (eqb t.s1 s) (eqb t.s2 s)
   where
     by : (a b c : Bool) → cond a (g 0) (cond b (g 1) (cond c (g 2) 0)) < bound
     by true b c = small 0 (lit< tt)
@@ -43,24 +43,24 @@ table_below n f s bound pos small = by (dec_lt s n)
     by (no ge) = rw (get_or-eq_default (table 0 n f) 0 {n = s} (omega (arith, table-length 0 n f))) pos
 
 module _ (slots : ℕ → Slots) (n : ℕ) (hs : List ℕ) (s : ℕ) where
-  pub count-at-most : get_or (sumsOf slots n hs).counts s 0 ≤ length hs
-  unfolding sumsOf
-  count-at-most =
-      le_of_suc-le-suc (table_below n (λ s. totalAll ◌+◌ (λ h. share (slots h) s (λ q. 1)) hs) s (suc (length hs)) (suc-le-suc zero-le)
+  pub count_at_most : get_or (sums_of slots n hs).counts s 0 ≤ length hs
+  unfolding sums_of
+  count_at_most =
+      le_of_suc-le-suc (table_below n (λ s. total_all ◌+◌ (λ h. share (slots h) s (λ q. 1)) hs) s (suc (length hs)) (suc-le-suc zero-le)
       (suc-le-suc (total_at_most (λ h. share (slots h) s (λ q. 1)) one hs)))
     where
       one : (h : ℕ) → share (slots h) s (λ q. 1) ≤ 1
-      one h = le_of_suc-le-suc (share-below (slots h) s (λ q. 1) 2 (lit< tt) (λ q lt. lit< tt))
+      one h = le_of_suc-le-suc (share_below (slots h) s (λ q. 1) 2 (lit< tt) (λ q lt. lit< tt))
 
-  pub hash-below : (width : ℕ) → ((i : ℕ) → i < length hs → get_or hs i 0 < 2 ^ width) → get_or (sumsOf slots n hs).hashes s 0 < 2 ^ width
-  unfolding sumsOf
-  hash-below width small =
-      table_below n (λ s. totalAll bit_xor (λ h. share (slots h) s (λ q. h)) hs) s (2 ^ width) (pow_pos width)
-      (total-below (λ h. share (slots h) s (λ q. h)) width hs
-      (λ i lt. share-below (slots (get_or hs i 0)) s (λ q. get_or hs i 0) (2 ^ width) (pow_pos width) (λ q q-lt. small i lt)))
+  pub hash_below : (width : ℕ) → ((i : ℕ) → i < length hs → get_or hs i 0 < 2 ^ width) → get_or (sums_of slots n hs).hashes s 0 < 2 ^ width
+  unfolding sums_of
+  hash_below width small =
+      table_below n (λ s. total_all bit_xor (λ h. share (slots h) s (λ q. h)) hs) s (2 ^ width) (pow_pos width)
+      (total_below (λ h. share (slots h) s (λ q. h)) width hs
+      (λ i lt. share_below (slots (get_or hs i 0)) s (λ q. get_or hs i 0) (2 ^ width) (pow_pos width) (λ q q-lt. small i lt)))
 
-  pub position-below : get_or (sumsOf slots n hs).positions s 0 < 4
-  unfolding sumsOf
-  position-below =
-      table_below n (λ s. totalAll bit_xor (λ h. share (slots h) s (λ q. q)) hs) s (2 ^ 2) (pow_pos 2)
-      (total-below (λ h. share (slots h) s (λ q. q)) 2 hs (λ i lt. share-below (slots (get_or hs i 0)) s (λ q. q) (2 ^ 2) (pow_pos 2) (λ q q-lt. omega arith)))
+  pub position_below : get_or (sums_of slots n hs).positions s 0 < 4
+  unfolding sums_of
+  position_below =
+      table_below n (λ s. total_all bit_xor (λ h. share (slots h) s (λ q. q)) hs) s (2 ^ 2) (pow_pos 2)
+      (total_below (λ h. share (slots h) s (λ q. q)) 2 hs (λ i lt. share_below (slots (get_or hs i 0)) s (λ q. q) (2 ^ 2) (pow_pos 2) (λ q q-lt. omega arith)))

@@ -9,11 +9,11 @@ use Rattle.stuck.specs.Stuck.{Slots, slot_at, touches}
 use Rattle.stuck.specs.Touching.{touches-own}
 use Rattle.stuck.specs.Ring.{Apart}
 use Rattle.reorder.specs.Reordered.{Reordered, same, swap, under, then}
-use Rattle.machine.specs.Machine.{Sums, share, totalAll, table, totals, sumsOf, changeAt}
-use Rattle.machine.specs.Share.{share-off, Place, place_of}
-use Rattle.machine.specs.Known.{known_at, moved, Long, sums_same, changed-long, changed-here, changed-other}
-use Rattle.machine.specs.Order.{sums-reordered}
-use Rattle.machine.specs.Start.{table_at, sums-long}
+use Rattle.machine.specs.Machine.{Sums, share, total_all, table, totals, sums_of, change_at}
+use Rattle.machine.specs.Share.{share_off, Place, place_of}
+use Rattle.machine.specs.Known.{known_at, moved, Long, sums_same, changed_long, changed_here, changed_other}
+use Rattle.machine.specs.Order.{sums_reordered}
+use Rattle.machine.specs.Start.{table_at, sums_long}
 
 -- ---- no key: nothing is known
 
@@ -22,32 +22,32 @@ unfolding table
 table-zero at zero = refl
 table-zero at (suc n) = ap (λ (l : List ℕ). 0 ∷ l) (table-zero (suc at) n)
 
-pub sums_none : (slots : ℕ → Slots) (n : ℕ) → sumsOf slots n [] ≡ record { counts = replicate n 0; hashes = replicate n 0; positions = replicate n 0 }
-unfolding sumsOf totalAll
+pub sums_none : (slots : ℕ → Slots) (n : ℕ) → sums_of slots n [] ≡ record { counts = replicate n 0; hashes = replicate n 0; positions = replicate n 0 }
+unfolding sums_of total_all
 sums_none slots n = λ i. record { counts = table-zero 0 n i; hashes = table-zero 0 n i; positions = table-zero 0 n i }
 
 -- ---- a key is added
 
 -- one more key touches slot s, at position q
 unfoldable pub touch : (h q s : ℕ) → Sums → Sums
-touch h q s a = changeAt (λ c. c + 1) h q s a
+touch h q s a = change_at (λ c. c + 1) h q s a
 
 -- the key with hash h and slots t is counted
-unfoldable pub addKey : (t : Slots) (h : ℕ) → Sums → Sums
-addKey t h a = touch h 2 t.s2 (touch h 1 t.s1 (touch h 0 t.s0 a))
+unfoldable pub add_key : (t : Slots) (h : ℕ) → Sums → Sums
+add_key t h a = touch h 2 t.s2 (touch h 1 t.s1 (touch h 0 t.s0 a))
 
 module _ (h q s : ℕ) (a : Sums) where
-  pub touch-long : (n : ℕ) → Long n a → Long n (touch h q s a)
+  pub touch_long : (n : ℕ) → Long n a → Long n (touch h q s a)
   unfolding touch
-  touch-long n long = changed-long (λ c. c + 1) h q s a n long
+  touch_long n long = changed_long (λ c. c + 1) h q s a n long
 
-  pub touch-here : (n : ℕ) → Long n a → s < n → known_at (touch h q s a) s ≡ moved (λ c. c + 1) h q (known_at a s)
+  pub touch_here : (n : ℕ) → Long n a → s < n → known_at (touch h q s a) s ≡ moved (λ c. c + 1) h q (known_at a s)
   unfolding touch
-  touch-here n long lt = changed-here (λ c. c + 1) h q s a n long lt
+  touch_here n long lt = changed_here (λ c. c + 1) h q s a n long lt
 
-  pub touch-other : (x : ℕ) → x ≢ s → known_at (touch h q s a) x ≡ known_at a x
+  pub touch_other : (x : ℕ) → x ≢ s → known_at (touch h q s a) x ≡ known_at a x
   unfolding touch
-  touch-other x ne = changed-other (λ c. c + 1) h q s a x ne
+  touch_other x ne = changed_other (λ c. c + 1) h q s a x ne
 
 module _ (n : ℕ) (t : Slots) (h : ℕ) (a : Sums) (apart : Apart n t) (long : Long n a) where
   abbrev one : Sums
@@ -56,98 +56,98 @@ module _ (n : ℕ) (t : Slots) (h : ℕ) (a : Sums) (apart : Apart n t) (long : 
   abbrev two : Sums
   two = touch h 1 t.s1 one
 
-  one-long : Long n one
-  one-long = touch-long h 0 t.s0 a n long
+  one_long : Long n one
+  one_long = touch_long h 0 t.s0 a n long
 
-  two-long : Long n two
-  two-long = touch-long h 1 t.s1 one n one-long
+  two_long : Long n two
+  two_long = touch_long h 1 t.s1 one n one_long
 
-  add-long : Long n (addKey t h a)
-  unfolding addKey
-  add-long = touch-long h 2 t.s2 two n two-long
+  add_long : Long n (add_key t h a)
+  unfolding add_key
+  add_long = touch_long h 2 t.s2 two n two_long
 
-  add-off : (s : ℕ) → ¬ T (touches t s) → known_at (addKey t h a) s ≡ known_at a s
-  unfolding addKey
-  add-off s off = touch-other h 2 t.s2 two s (away 2) ∙ touch-other h 1 t.s1 one s (away 1) ∙ touch-other h 0 t.s0 a s (away 0)
+  add_off : (s : ℕ) → ¬ T (touches t s) → known_at (add_key t h a) s ≡ known_at a s
+  unfolding add_key
+  add_off s off = touch_other h 2 t.s2 two s (away 2) ∙ touch_other h 1 t.s1 one s (away 1) ∙ touch_other h 0 t.s0 a s (away 0)
     where
       away : (q : ℕ) → s ≢ slot_at t q
       away q e = off (subst (λ (x : ℕ). T (touches t x)) (sym e) (touches-own t q))
 
-  add_at : (q : ℕ) → q < 3 → known_at (addKey t h a) (slot_at t q) ≡ moved (λ c. c + 1) h q (known_at a (slot_at t q))
-  unfolding addKey
+  add_at : (q : ℕ) → q < 3 → known_at (add_key t h a) (slot_at t q) ≡ moved (λ c. c + 1) h q (known_at a (slot_at t q))
+  unfolding add_key
   add_at zero lt =
-      touch-other h 2 t.s2 two t.s0 apart.ne02 ∙ touch-other h 1 t.s1 one t.s0 apart.ne01
-      ∙ touch-here h 0 t.s0 a n long apart.in0
+      touch_other h 2 t.s2 two t.s0 apart.ne02 ∙ touch_other h 1 t.s1 one t.s0 apart.ne01
+      ∙ touch_here h 0 t.s0 a n long apart.in0
   add_at (suc zero) lt =
-      touch-other h 2 t.s2 two t.s1 apart.ne12 ∙ touch-here h 1 t.s1 one n one-long apart.in1
-      ∙ ap (moved (λ c. c + 1) h 1) (touch-other h 0 t.s0 a t.s1 (λ e. apart.ne01 (sym e)))
+      touch_other h 2 t.s2 two t.s1 apart.ne12 ∙ touch_here h 1 t.s1 one n one_long apart.in1
+      ∙ ap (moved (λ c. c + 1) h 1) (touch_other h 0 t.s0 a t.s1 (λ e. apart.ne01 (sym e)))
   add_at (suc (suc zero)) lt =
-      touch-here h 2 t.s2 two n two-long apart.in2
+      touch_here h 2 t.s2 two n two_long apart.in2
       ∙ ap (moved (λ c. c + 1) h 2)
-      (touch-other h 1 t.s1 one t.s2 (λ e. apart.ne12 (sym e)) ∙ touch-other h 0 t.s0 a t.s2 (λ e. apart.ne02 (sym e)))
+      (touch_other h 1 t.s1 one t.s2 (λ e. apart.ne12 (sym e)) ∙ touch_other h 0 t.s0 a t.s2 (λ e. apart.ne02 (sym e)))
   add_at (suc (suc (suc q))) lt = absurd (omega arith)
 
 -- ---- the sums with one more key
 
 module _ (slots : ℕ → Slots) (n : ℕ) (hs : List ℕ) (h : ℕ) (apart : Apart n (slots h)) where
   -- each of the three lists holds totals, to which the new key gives its share
-  cons-at : (op : ℕ → ℕ → ℕ) → ((x y : ℕ) → op x y ≡ op y x) → (g : ℕ → ℕ → ℕ) (s : ℕ) → s < n
+  cons_at : (op : ℕ → ℕ → ℕ) → ((x y : ℕ) → op x y ≡ op y x) → (g : ℕ → ℕ → ℕ) (s : ℕ) → s < n
       → get_or (totals slots n op g (h ∷ hs)) s 0 ≡ op (get_or (totals slots n op g hs) s 0) (share (slots h) s (g h))
-  unfolding totalAll
-  cons-at op co g s lt =
-      table_at n (λ s. totalAll op (λ k. share (slots k) s (g k)) (h ∷ hs)) s lt ∙ co _ _
-      ∙ ap (λ (x : ℕ). op x (share (slots h) s (g h))) (sym (table_at n (λ s. totalAll op (λ k. share (slots k) s (g k)) hs) s lt))
+  unfolding total_all
+  cons_at op co g s lt =
+      table_at n (λ s. total_all op (λ k. share (slots k) s (g k)) (h ∷ hs)) s lt ∙ co _ _
+      ∙ ap (λ (x : ℕ). op x (share (slots h) s (g h))) (sym (table_at n (λ s. total_all op (λ k. share (slots k) s (g k)) hs) s lt))
 
-  cons-known : (s : ℕ) → s < n
-      → known_at (sumsOf slots n (h ∷ hs)) s
+  cons_known : (s : ℕ) → s < n
+      → known_at (sums_of slots n (h ∷ hs)) s
       ≡ record {
-        count = (known_at (sumsOf slots n hs) s).count + share (slots h) s (λ q. 1);
-        hash = bit_xor (known_at (sumsOf slots n hs) s).hash (share (slots h) s (λ q. h));
-        position = bit_xor (known_at (sumsOf slots n hs) s).position (share (slots h) s (λ q. q));
+        count = (known_at (sums_of slots n hs) s).count + share (slots h) s (λ q. 1);
+        hash = bit_xor (known_at (sums_of slots n hs) s).hash (share (slots h) s (λ q. h));
+        position = bit_xor (known_at (sums_of slots n hs) s).position (share (slots h) s (λ q. q));
       }
-  unfolding sumsOf
-  cons-known s lt = λ i. record {
-    count = cons-at ◌+◌ (λ x y. omega arith) (λ k q. 1) s lt i;
-    hash = cons-at bit_xor xor_comm (λ k q. k) s lt i;
-    position = cons-at bit_xor xor_comm (λ k q. q) s lt i;
+  unfolding sums_of
+  cons_known s lt = λ i. record {
+    count = cons_at ◌+◌ (λ x y. omega arith) (λ k q. 1) s lt i;
+    hash = cons_at bit_xor xor_comm (λ k q. k) s lt i;
+    position = cons_at bit_xor xor_comm (λ k q. q) s lt i;
   }
 
-  pub sums-cons : addKey (slots h) h (sumsOf slots n hs) ≡ sumsOf slots n (h ∷ hs)
-  sums-cons =
-      sums_same n _ _ (add-long n (slots h) h old apart (sums-long slots hs n)) (sums-long slots (h ∷ hs) n)
+  pub sums_cons : add_key (slots h) h (sums_of slots n hs) ≡ sums_of slots n (h ∷ hs)
+  sums_cons =
+      sums_same n _ _ (add_long n (slots h) h old apart (sums_long slots hs n)) (sums_long slots (h ∷ hs) n)
       (λ s lt. by s lt (touches (slots h) s) refl)
     where
       old : Sums
-      old = sumsOf slots n hs
+      old = sums_of slots n hs
 
-      on : (s : ℕ) → s < n → Place (slots h) s → known_at (addKey (slots h) h old) s ≡ known_at (sumsOf slots n (h ∷ hs)) s
+      on : (s : ℕ) → s < n → Place (slots h) s → known_at (add_key (slots h) h old) s ≡ known_at (sums_of slots n (h ∷ hs)) s
       on s lt pl =
-          subst (λ (x : ℕ). known_at (addKey (slots h) h old) x ≡ moved (λ c. c + 1) h pl.position (known_at old x)) pl.here
-          (add_at n (slots h) h old apart (sums-long slots hs n) pl.position pl.small)
-          ∙ sym (cons-known s lt ∙ rw (pl.gives (λ q. 1), pl.gives (λ q. h), pl.gives (λ q. q)))
+          subst (λ (x : ℕ). known_at (add_key (slots h) h old) x ≡ moved (λ c. c + 1) h pl.position (known_at old x)) pl.here
+          (add_at n (slots h) h old apart (sums_long slots hs n) pl.position pl.small)
+          ∙ sym (cons_known s lt ∙ rw (pl.gives (λ q. 1), pl.gives (λ q. h), pl.gives (λ q. q)))
 
-      plus-zero : (x y : ℕ) → y ≡ 0 → x ≡ x + y
-      plus-zero x y e = omega arith
+      plus_zero : (x y : ℕ) → y ≡ 0 → x ≡ x + y
+      plus_zero x y e = omega arith
 
       xor-zero : (x y : ℕ) → y ≡ 0 → x ≡ bit_xor x y
       xor-zero x y e = rw e (sym (xor_zero_r x))
 
-      off : (s : ℕ) → s < n → ¬ T (touches (slots h) s) → known_at (addKey (slots h) h old) s ≡ known_at (sumsOf slots n (h ∷ hs)) s
+      off : (s : ℕ) → s < n → ¬ T (touches (slots h) s) → known_at (add_key (slots h) h old) s ≡ known_at (sums_of slots n (h ∷ hs)) s
       off s lt away =
-          add-off n (slots h) h old apart (sums-long slots hs n) s away ∙ (λ i. record {
-            count = plus-zero (known_at old s).count _ (share-off (slots h) s (λ q. 1) away) i;
-            hash = xor-zero (known_at old s).hash _ (share-off (slots h) s (λ q. h) away) i;
-            position = xor-zero (known_at old s).position _ (share-off (slots h) s (λ q. q) away) i;
-          }) ∙ sym (cons-known s lt)
+          add_off n (slots h) h old apart (sums_long slots hs n) s away ∙ (λ i. record {
+            count = plus_zero (known_at old s).count _ (share_off (slots h) s (λ q. 1) away) i;
+            hash = xor-zero (known_at old s).hash _ (share_off (slots h) s (λ q. h) away) i;
+            position = xor-zero (known_at old s).position _ (share_off (slots h) s (λ q. q) away) i;
+          }) ∙ sym (cons_known s lt)
 
-      by : (s : ℕ) → s < n → (b : Bool) → touches (slots h) s ≡ b → known_at (addKey (slots h) h old) s ≡ known_at (sumsOf slots n (h ∷ hs)) s
+      by : (s : ℕ) → s < n → (b : Bool) → touches (slots h) s ≡ b → known_at (add_key (slots h) h old) s ≡ known_at (sums_of slots n (h ∷ hs)) s
       by s lt true e = on s lt (place_of (slots h) s (rw e tt))
       by s lt false e = off s lt (λ x. subst T e x)
 
-  last-first : (l : List ℕ) → Reordered (h ∷ l) (l ++ (h ∷ []))
-  last-first [] = same
-  last-first (x ∷ l) = then (swap h x) (under x (last-first l))
+  last_first : (l : List ℕ) → Reordered (h ∷ l) (l ++ (h ∷ []))
+  last_first [] = same
+  last_first (x ∷ l) = then (swap h x) (under x (last_first l))
 
   -- one more key at the end
-  pub sums-snoc : addKey (slots h) h (sumsOf slots n hs) ≡ sumsOf slots n (hs ++ (h ∷ []))
-  sums-snoc = sums-cons ∙ sums-reordered slots n (last-first hs)
+  pub sums_snoc : add_key (slots h) h (sums_of slots n hs) ≡ sums_of slots n (hs ++ (h ∷ []))
+  sums_snoc = sums_cons ∙ sums_reordered slots n (last_first hs)

@@ -4,10 +4,10 @@ use Rattle.std.specs.Prelude.{◌≡◌, refl, ◌≢◌, Bool, true, false, Lis
 use Rattle.std.proofs.Common.{◌∙◌, arith, eqb→eq, ltb→lt}
 use Rattle.std.proofs.Math.Decide.{ℕ_discrete, dec_le}
 use Rattle.std.proofs.Math.Facts.{yes_ltb}
-use Rattle.stuck.specs.Total.{bit, bit-yes, bit-no}
+use Rattle.stuck.specs.Total.{bit, bit_yes, bit_no}
 use Rattle.stuck.specs.Stuck.{Slots, slot_at, next}
-use Rattle.machine.specs.Machine.{State, change, changeAt, pushIf, scan, release, takeKey}
-use Rattle.machine.specs.Stack.{push-length}
+use Rattle.machine.specs.Machine.{State, change, change_at, push_if, scan, release, take_key}
+use Rattle.machine.specs.Stack.{push_length}
 
 -- how many slots are touched twice or more
 unfoldable pub many : List ℕ → ℕ
@@ -20,19 +20,19 @@ work st = length st.stack + many st.sums.counts
 -- ---- a release
 
 above : (c : ℕ) → 1 < c → bit (ltb 1 c) ≡ 1
-above c h = bit-yes (ltb 1 c) (yes_ltb {a = 1} {b = c} h)
+above c h = bit_yes (ltb 1 c) (yes_ltb {a = 1} {b = c} h)
 
-not-above : (c : ℕ) → c ≤ 1 → bit (ltb 1 c) ≡ 0
-not-above c h = bit-no (ltb 1 c) (λ t. omega (arith, ltb→lt 1 c t))
+not_above : (c : ℕ) → c ≤ 1 → bit (ltb 1 c) ≡ 0
+not_above c h = bit_no (ltb 1 c) (λ t. omega (arith, ltb→lt 1 c t))
 
 fall : (c : ℕ) → bit (eqb c 2) + bit (ltb 1 (c - 1)) ≡ bit (ltb 1 c)
-fall c = elim (ℕ_discrete c 2) [ yes e ↦ two e | no ne ↦ other (bit-no (eqb c 2) (λ t. ne (eqb→eq c 2 t))) ne (dec_le c 1) ]
+fall c = elim (ℕ_discrete c 2) [ yes e ↦ two e | no ne ↦ other (bit_no (eqb c 2) (λ t. ne (eqb→eq c 2 t))) ne (dec_le c 1) ]
   where
     two : c ≡ 2 → bit (eqb c 2) + bit (ltb 1 (c - 1)) ≡ bit (ltb 1 c)
     two e = rw e
 
     other : bit (eqb c 2) ≡ 0 → c ≢ 2 → Dec (c ≤ 1) → bit (eqb c 2) + bit (ltb 1 (c - 1)) ≡ bit (ltb 1 c)
-    other no-push ne (yes h) = omega (arith, not-above (c - 1) (omega arith), not-above c h)
+    other no-push ne (yes h) = omega (arith, not_above (c - 1) (omega arith), not_above c h)
     other no-push ne (no h) = omega (arith, above (c - 1) (omega arith), above c (omega arith))
 
 pub many-change : (s : ℕ) (l : List ℕ) → bit (eqb (get_or l s 0) 2) + many (change (λ x. x - 1) s l) ≡ many l
@@ -42,17 +42,17 @@ many-change zero (c ∷ l) = omega (arith, fall c)
 many-change (suc s) (c ∷ l) = omega (arith, many-change s l)
 
 pub release-work : (h q s : ℕ) (st : State) → work (release h q s st) ≡ work st
-unfolding release changeAt
-release-work h q s st = omega (arith, push-length s st.stack (eqb (get_or st.sums.counts s 0) 2), many-change s st.sums.counts)
+unfolding release change_at
+release-work h q s st = omega (arith, push_length s st.stack (eqb (get_or st.sums.counts s 0) 2), many-change s st.sums.counts)
 
-pub take-work : (t : Slots) (h p : ℕ) (st : State) → work (takeKey t h p st) ≡ work st
-unfolding takeKey
+pub take-work : (t : Slots) (h p : ℕ) (st : State) → work (take_key t h p st) ≡ work st
+unfolding take_key
 take-work t h p st = release-work h (next (next p)) (slot_at t (next (next p))) _ ∙ release-work h (next p) (slot_at t (next p)) st
 
 -- ---- the scan
 
-once-or-more : (c : ℕ) → bit (eqb c 1) + bit (ltb 1 c) ≤ 1
-once-or-more c = by (eqb c 1) (ltb 1 c) (λ t u. omega (arith, eqb→eq c 1 t, ltb→lt 1 c u))
+once_or_more : (c : ℕ) → bit (eqb c 1) + bit (ltb 1 c) ≤ 1
+once_or_more c = by (eqb c 1) (ltb 1 c) (λ t u. omega (arith, eqb→eq c 1 t, ltb→lt 1 c u))
   where
     by : (a b : Bool) → (T a → T b → ⊥) → bit a + bit b ≤ 1
     by true true f = absurd (f tt tt)
@@ -63,4 +63,4 @@ once-or-more c = by (eqb c 1) (ltb 1 c) (λ t u. omega (arith, eqb→eq c 1 t, l
 pub scan-work : (at : ℕ) (cs stack : List ℕ) → length (scan at cs stack) + many cs ≤ length stack + length cs
 unfolding scan many
 scan-work at [] stack = omega arith
-scan-work at (c ∷ cs) stack = omega (arith, scan-work (suc at) cs (pushIf (eqb c 1) at stack), push-length at stack (eqb c 1), once-or-more c)
+scan-work at (c ∷ cs) stack = omega (arith, scan-work (suc at) cs (push_if (eqb c 1) at stack), push_length at stack (eqb c 1), once_or_more c)

@@ -1,6 +1,6 @@
 // The seven buffers that a call is lent, each at the start of a longer array. Before it every element of each array is `MARK`.
 ghost use Rattle.std.specs.Prelude.{◌+◌, ◌≤◌};
-ghost use Rattle.layout.specs.Layout.{maxSlots};
+ghost use Rattle.layout.specs.Layout.{max_slots};
 
 use layout::limits::MAX_SLOTS;
 
@@ -65,7 +65,7 @@ pub fn least(a: usize, b: usize) -> usize
 
 // How many elements of a buffer are lent.
 pub fn end_of(buffer: u32, lent: Lent) -> usize
-    ensures { result ≤ maxSlots + 8 }
+    ensures { result ≤ max_slots + 8 }
 {
     let needed = needed_of(buffer, lent);
     if buffer == lent.short {

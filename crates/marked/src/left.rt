@@ -1,7 +1,7 @@
 // What a call leaves of the marked buffers: of the fingerprints, and of the scratch buffers together. Every array is read whole, so a write
 // past the lent part would be told too.
 ghost use Rattle.std.specs.Prelude.{◌+◌, ◌<◌};
-ghost use Rattle.layout.specs.Layout.{maxSlots};
+ghost use Rattle.layout.specs.Layout.{max_slots};
 
 use crate::buffers::{LENGTH, Lent, MARK};
 
@@ -58,7 +58,7 @@ fn with_scratch(
     order: &[u64; LENGTH],
     starts: &[u32; LENGTH],
 ) -> Left
-    requires { i < maxSlots + 8 }
+    requires { i < max_slots + 8 }
 {
     let slot = i < lent.slots;
     let a = with(so_far, from_u32(lone[i]), slot);

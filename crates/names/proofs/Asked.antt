@@ -77,14 +77,14 @@ function name = record {
       return))));
 }
 
-abbrev pathS : Slot 1
-pathS = shr_ref_to (0 ∷ []) tt (array_of (plain (λ _. u8)) 4096)
+abbrev path_s : Slot 1
+path_s = shr_ref_to (0 ∷ []) tt (array_of (plain (λ _. u8)) 4096)
 
-abbrev knownS : Slot 1
-knownS = plain (λ _. S.the_row)
+abbrev known_s : Slot 1
+known_s = plain (λ _. S.the_row)
 
 abbrev stayed : Stays (asked.ended).signature.params (asked.ended).kept
-stayed = (stay_dropped pathS yes, (stay_dropped knownS yes, tt))
+stayed = (stay_dropped path_s yes, (stay_dropped known_s yes, tt))
 
 abbrev told : ℤ → stat → Told
 told r z = record { answer = r; known = z }
@@ -92,8 +92,8 @@ told r z = record { answer = r; known = z }
 abbrev pair : Val → Val → Val
 pair v w = vstruct (of_list (v ∷ w ∷ []))
 
-is-told : (r : ℤ) (v : Val) (z : stat) (w : Val) → Is i32 r (v ∷ []) → Is S.the_row z (w ∷ []) → Is T.the_row (told r z) (pair v w ∷ [])
-is-told r v z w is-r is-z = ((v ∷ [], (w ∷ [], tt)), (refl, (is-r, (is-z, tt))))
+is_told : (r : ℤ) (v : Val) (z : stat) (w : Val) → Is i32 r (v ∷ []) → Is S.the_row z (w ∷ []) → Is T.the_row (told r z) (pair v w ∷ [])
+is_told r v z w is-r is-z = ((v ∷ [], (w ∷ [], tt)), (refl, (is-r, (is-z, tt))))
 
 module _ {M : Type 1} {𝓤 : Ura M} (𝓛 : Logic 𝓤) (at_mem : Memory → SProp 𝓤) (run : Routine → Fun 𝓤) where
   abbrev pub Callee : Contract 𝓤
@@ -105,8 +105,8 @@ module _ {M : Type 1} {𝓤 : Ura M} (𝓛 : Logic 𝓤) (at_mem : Memory → SP
   abbrev x : MutBor (List ℕ)
   x = record { ref_ptr = (b, o); ghost_name = γ; now = path }
 
-  abbrev own-path : Fml
-  own-path = (ShrRef (named 0) κ (Array u8 4096)).own_val x (vptr b o ∷ [])
+  abbrev own_path : Fml
+  own_path = (ShrRef (named 0) κ (Array u8 4096)).own_val x (vptr b o ∷ [])
 
   abbrev mach : Val
   mach = LL.val S.the_type S'.the_laws h
@@ -131,13 +131,13 @@ module _ {M : Type 1} {𝓤 : Ura M} (𝓛 : Logic 𝓤) (at_mem : Memory → SP
   own-lent α l δ = (MutRef (named 1) (α ∷ []) S.the_row).own_val (lent l δ) (vptr l 0 ∷ [])
 
   -- what the callee's triple binds outside, and that the caller has what it asks
-  abbrev to-callee : ℕ → ℕ → GName → (Callee 𝓛 at_mem run).Ghost
-  to-callee α l δ = (((κ, (α ∷ [], tt)), (q, (full_share, tt)), tt, (x, (lent l δ, tt)), (vptr b o ∷ [], (vptr l 0 ∷ [], tt))), tt)
+  abbrev to_callee : ℕ → ℕ → GName → (Callee 𝓛 at_mem run).Ghost
+  to_callee α l δ = (((κ, (α ∷ [], tt)), (q, (full_share, tt)), tt, (x, (lent l δ, tt)), (vptr b o ∷ [], (vptr l 0 ∷ [], tt))), tt)
 
-  goes-callee : (α l : ℕ) (δ : GName)
-      → ent 𝓤 (sep 𝓤 (sep 𝓤 (A.lft κ q) (sem 𝓛 ftrue)) (sep 𝓤 (A.lft (α ∷ []) full_share) (sep 𝓤 (sem 𝓛 own-path) (sem 𝓛 (own-lent α l δ))))) ((Callee 𝓛 at_mem run).pre (to-callee α l δ))
-  goes-callee α l δ =
-      qed 𝓛 ((‵ (flft κ q) ⊛ ‵ ftrue) ∷ ‵ (flft (α ∷ []) full_share) ∷ ‵ own-path ∷ ‵ (own-lent α l δ) ∷ []) ∵ says ! ended $
+  goes_callee : (α l : ℕ) (δ : GName)
+      → ent 𝓤 (sep 𝓤 (sep 𝓤 (A.lft κ q) (sem 𝓛 ftrue)) (sep 𝓤 (A.lft (α ∷ []) full_share) (sep 𝓤 (sem 𝓛 own_path) (sem 𝓛 (own-lent α l δ))))) ((Callee 𝓛 at_mem run).pre (to_callee α l δ))
+  goes_callee α l δ =
+      qed 𝓛 ((‵ (flft κ q) ⊛ ‵ ftrue) ∷ ‵ (flft (α ∷ []) full_share) ∷ ‵ own_path ∷ ‵ (own-lent α l δ) ∷ []) ∵ says ! ended $
       split ! $ move ! (2 ∷ 1 ∷ []) $ join ! $ move ! (1 ∷ 0 ∷ []) $ join ! $ frame ! $
       nothing ! $ move ! (2 ∷ 0 ∷ []) $ fjoin ! $ move ! (1 ∷ 0 ∷ []) $ fjoin ! $ done !
 
@@ -145,7 +145,7 @@ module _ {M : Type 1} {𝓤 : Ura M} (𝓛 : Logic 𝓤) (at_mem : Memory → SP
   exits r v z w is-r is-z =
       qed 𝓛 (‵ (flft κ q) ∷ []) ∵
       suffices ! _ (ends_at 𝓛 asked.ended stayed (asked.clauses 𝓛 at_mem run) (((κ, tt), (q, tt), tt, a, vals), tt) (pair v w) (told r z) (tt, (tt, tt)) (tt, (tt, tt))) $
-      owned ! T.the_row (Is T.the_row) (LL.makes T.the_type T'.the_plain 𝓛) (told r z) _ (is-told r v z w is-r is-z) $
+      owned ! T.the_row (Is T.the_row) (LL.makes T.the_type T'.the_plain 𝓛) (told r z) _ (is_told r v z w is-r is-z) $
       nothing ! $ nothing ! $ fjoin ! $ nothing ! $ fjoin ! $ join ! $ nothing ! $ move ! (2 ∷ 0 ∷ []) $ join ! $ join ! $ nothing ! $ move ! (1 ∷ 0 ∷ []) $ done !
 
   module _ (C : Calls 𝓤 H) (Λ : Loops 𝓤 H) (fm : FmC 𝓤 H 𝓛.laws C) (name : Name) (known : Triple 𝓤 (C name) (Callee 𝓛 at_mem run)) where
@@ -163,8 +163,8 @@ module _ {M : Type 1} {𝓤 : Ura M} (𝓛 : Logic 𝓤) (at_mem : Memory → SP
         lft_new ! tt (λ α. move ! (1 ∷ []) $
         use1 𝓛 (later (some (λ (δ : GName). ‵ (own-lent α l₃ δ) ⊛ ‵ (flent (α ∷ []) (Body (mem S.the_row) l₃ 0 δ))))) (lends_ref 𝓛 S.the_row (named 1) (α ∷ []) h l₃ 0) $ await ! tt $ pick ! (λ δ. split ! $
         -- [the reference; the lender's part; the new token; true; what path owns; _6; …; _5; …; _4; …; the end of _3; _2; …; _1; …; room for _0; …; the token]
-        move ! (4 ∷ 0 ∷ []) $ join ! $ move ! (17 ∷ 2 ∷ 0 ∷ []) $ use3 𝓛 (raw ((Callee 𝓛 at_mem run).pre (to-callee α l₃ δ))) (goes-callee α l₃ δ) $
-        calls_at ! fm (Callee 𝓛 at_mem run) known (to-callee α l₃ δ) (and_then ! (load ! (from ! (stop !)) (look ! 12 refl)) (and_then ! (load ! (from ! (stop !)) (look ! 5 refl)) (no_more !))) (λ v.
+        move ! (4 ∷ 0 ∷ []) $ join ! $ move ! (17 ∷ 2 ∷ 0 ∷ []) $ use3 𝓛 (raw ((Callee 𝓛 at_mem run).pre (to_callee α l₃ δ))) (goes_callee α l₃ δ) $
+        calls_at ! fm (Callee 𝓛 at_mem run) known (to_callee α l₃ δ) (and_then ! (load ! (from ! (stop !)) (look ! 12 refl)) (and_then ! (load ! (from ! (stop !)) (look ! 5 refl)) (no_more !))) (λ v.
         use1 𝓛 (later (some (λ (r : ℤ). ((‵ (flft κ q) ⊛ (‵ (flft (α ∷ []) full_share) ⊛ ‵ ftrue)) ⊛ ‵ (i32.own_val r (v ∷ []))) ⊛ raw (ensured 𝓛 callee.ended (callee.clauses 𝓛 at_mem run) (κ, (α ∷ [], tt)) (x, (lent l₃ δ, tt)) tt r)))) (id⊢ 𝓤 _) $
         await ! tt $ pick ! (λ r. split ! $ move ! (1 ∷ []) $ drop ! $ split ! $ move ! (1 ∷ []) $ peeks ! i32 (Is i32) (shows 𝓛 i32) r (v ∷ []) (λ is-r.
         land ! (from ! (stop !)) (init ! 8 refl ((sint_Lawful 𝓛 w32).typed r _ is-r).0) $
@@ -175,7 +175,7 @@ module _ {M : Type 1} {𝓤 : Ura M} (𝓛 : Logic 𝓤) (at_mem : Memory → SP
         -- [what z owns; _3; δ's value; true; the token; what r owns; true; _6; …; _5; …; _4; …; the end of _3; _2; …; _1; …; room for _0; …]
         assigns ! (of_opd ! (load ! (from ! (stop !)) (look ! 1 refl))) (from ! (stop !)) (init ! 7 refl ((LL.lawful S.the_type S'.the_laws 𝓛).typed z _ is-z).0) $
         assigns ! (agg ! (and_then ! (load ! (from ! (stop !)) (look ! 11 refl)) (and_then ! (load ! (from ! (stop !)) (look ! 7 refl)) (no_more !)))) (from ! (stop !))
-        (init ! 18 refl ((LL.lawful T.the_type T'.the_laws 𝓛).typed (told r z) _ (is-told r v z w is-r is-z)).0) $
+        (init ! 18 refl ((LL.lawful T.the_type T'.the_laws 𝓛).typed (told r z) _ (is_told r v z w is-r is-z)).0) $
         returns ! (look ! 18 refl) $ forget ! 1 refl $ forget ! 7 refl $ forget ! 9 refl $ forget ! 11 refl $ forget ! 14 refl $ forget ! 16 refl $ forget ! 18 refl $
         move ! (18 ∷ 19 ∷ []) $ free1 ! $ move ! (16 ∷ 17 ∷ []) $ free1 ! $ move ! (14 ∷ 15 ∷ []) $ free1 ! $ move ! (1 ∷ 13 ∷ []) $ free1 ! $ move ! (10 ∷ 11 ∷ []) $ free1 ! $ move ! (8 ∷ 9 ∷ []) $ free1 ! $ move ! (6 ∷ 7 ∷ []) $ free1 ! $ free0 ! $
         keep ! (3 ∷ []) $ by ! (exits r v z w is-r is-z))))))))))))))))
@@ -191,5 +191,5 @@ module _ {M : Type 1} {𝓤 : Ura M} (𝓛 : Logic 𝓤) (at_mem : Memory → SP
 
   pub meets : (𝓣 : Tables 𝓤 H) → Triple 𝓤 (𝓣.C name) (Callee 𝓛 at_mem run) → Meets 𝓛 asked.signature (WpFn 𝓤 H 𝓣.C 𝓣.Λ (function name)) (asked.spec 𝓛 at_mem run)
   meets 𝓣 known =
-      walk_Meets 𝓛 asked.ended stayed (Goes-dropped 𝓛 1 pathS yes (λ κs x f. refl), (Goes-dropped 𝓛 1 knownS yes (λ κs x f. refl), tt)) (asked.clauses 𝓛 at_mem run)
+      walk_Meets 𝓛 asked.ended stayed (Goes-dropped 𝓛 1 path_s yes (λ κs x f. refl), (Goes-dropped 𝓛 1 known_s yes (λ κs x f. refl), tt)) (asked.clauses 𝓛 at_mem run)
       (WpFn 𝓤 H 𝓣.C 𝓣.Λ (function name)) (WpFn-mono 𝓤 H 𝓛.laws 𝓣 (function name)) (walks 𝓣.C 𝓣.Λ (fm_of 𝓤 H 𝓛.laws 𝓣) known)

@@ -17,8 +17,8 @@ pub record Clearing (before l : List ℕ) (i : ℕ) : Type 0 where
 abbrev pub left : List ℕ → ℕ → ℕ
 left before i = length before - i
 
-pub clear-start : (before : List ℕ) → Clearing before before 0
-clear-start before = record { within = omega arith; same = refl; so_far = refl }
+pub clear_start : (before : List ℕ) → Clearing before before 0
+clear_start before = record { within = omega arith; same = refl; so_far = refl }
 
 one_more : (i : ℕ) (before : List ℕ) → i < length before → set (replicate i 0 ++ drop i before) i 0 ≡ replicate (suc i) 0 ++ drop (suc i) before
 one_more i [] h = absurd (not-suc-le-zero h)
@@ -33,8 +33,8 @@ clear_step {before} {l} {i} lt k =
       so_far = rw (k.so_far, add-one) (one_more i before (omega (arith, k.same)));
     }
 
-pub clear-end : {before l : List ℕ} {i : ℕ} → length l ≤ i → Clearing before l i → l ≡ replicate (length before) 0
-clear-end {before} {l} {i} le k =
+pub clear_end : {before l : List ℕ} {i : ℕ} → length l ≤ i → Clearing before l i → l ≡ replicate (length before) 0
+clear_end {before} {l} {i} le k =
     let all : length before ≤ i = omega (arith, k.same) in
     k.so_far ∙ ap (λ (r : List ℕ). replicate i 0 ++ r) (drop_of_length-le before {i = i} all) ∙ append-nil (replicate i 0)
     ∙ ap (λ (n : ℕ). replicate n 0) (le_antisymm k.within all)

@@ -6,29 +6,29 @@ use Rattle.stuck.specs.Stuck.{Pick, pick}
 use Rattle.machine.specs.Machine.{Sums, State}
 
 -- the most keys that a slot can count: 16 bits hold count × 4 + 3 up to there
-abbrev pub maxTouches : ℕ
-maxTouches = 16383
+abbrev pub max_touches : ℕ
+max_touches = 16383
 
 -- the counts alone
-abbrev pub countsIn : List ℕ → List ℕ
-countsIn counts = map (λ packed. packed / 4) counts
+abbrev pub counts_in : List ℕ → List ℕ
+counts_in counts = map (λ packed. packed / 4) counts
 
 -- the xors of positions alone
-abbrev pub positionsIn : List ℕ → List ℕ
-positionsIn counts = map (λ packed. packed % 4) counts
+abbrev pub positions_in : List ℕ → List ℕ
+positions_in counts = map (λ packed. packed % 4) counts
 
 -- what each slot knows, from the packed counts and the sums of hashes
-unfoldable pub sumsIn : List ℕ → List ℕ → Sums
-sumsIn counts sums = record { counts = countsIn counts; hashes = sums; positions = positionsIn counts }
+unfoldable pub sums_in : List ℕ → List ℕ → Sums
+sums_in counts sums = record { counts = counts_in counts; hashes = sums; positions = positions_in counts }
 
 -- the first `top` of the list, the last stacked first
 unfoldable pub stack_of : List ℕ → ℕ → List ℕ
 stack_of lone top = reverse (take top lone)
 
-abbrev pub stateIn : List ℕ → List ℕ → List ℕ → ℕ → State
-stateIn counts sums lone top = record { sums = sumsIn counts sums; stack = stack_of lone top }
+abbrev pub state_in : List ℕ → List ℕ → List ℕ → ℕ → State
+state_in counts sums lone top = record { sums = sums_in counts sums; stack = stack_of lone top }
 
 -- the first k of the two lists, as keys taken, the first taken first
-unfoldable pub picksIn : ℕ → List ℕ → List ℕ → List Pick
-picksIn zero order positions = []
-picksIn (suc k) order positions = picksIn k order positions ++ (pick (get_or order k 0) (get_or positions k 0) ∷ [])
+unfoldable pub picks_in : ℕ → List ℕ → List ℕ → List Pick
+picks_in zero order positions = []
+picks_in (suc k) order positions = picks_in k order positions ++ (pick (get_or order k 0) (get_or positions k 0) ∷ [])

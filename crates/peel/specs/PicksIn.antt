@@ -4,23 +4,23 @@ use Rattle.std.proofs.Common.{◌∙◌, arith, length-append}
 use Rattle.std.proofs.Math.Decide.{ℕ_discrete}
 use Rattle.stuck.specs.Stuck.{Pick, pick}
 use Rattle.machine.specs.Picks.{SmallPositions}
-use Rattle.peel.specs.Buffers.{picksIn}
+use Rattle.peel.specs.Buffers.{picks_in}
 
-pub picks-in-length : (k : ℕ) (order positions : List ℕ) → length (picksIn k order positions) ≡ k
-unfolding picksIn
-picks-in-length zero order positions = refl
-picks-in-length (suc k) order positions =
-    length-append (picksIn k order positions) _ ∙ omega (arith, picks-in-length k order positions)
+pub picks_in_length : (k : ℕ) (order positions : List ℕ) → length (picks_in k order positions) ≡ k
+unfolding picks_in
+picks_in_length zero order positions = refl
+picks_in_length (suc k) order positions =
+    length-append (picks_in k order positions) _ ∙ omega (arith, picks_in_length k order positions)
 
 parts : (front back : List Pick) → SmallPositions (front ++ back) → SmallPositions front × SmallPositions back
 parts [] back k = (tt, k)
 parts (pick hash position ∷ front) back k = let w = parts front back k.1 in ((k.0, w.0), w.1)
 
-pub picks-in-small : (k : ℕ) (order positions : List ℕ) → SmallPositions (picksIn k order positions) → (i : ℕ) → i < k → get_or positions i 0 < 3
-unfolding picksIn
-picks-in-small zero order positions w i lt = absurd (omega arith)
-picks-in-small (suc k) order positions w i lt = by (ℕ_discrete i k) (picks-in-small k order positions (parts (picksIn k order positions) _ w).0 i)
+pub picks_in_small : (k : ℕ) (order positions : List ℕ) → SmallPositions (picks_in k order positions) → (i : ℕ) → i < k → get_or positions i 0 < 3
+unfolding picks_in
+picks_in_small zero order positions w i lt = absurd (omega arith)
+picks_in_small (suc k) order positions w i lt = by (ℕ_discrete i k) (picks_in_small k order positions (parts (picks_in k order positions) _ w).0 i)
   where
     by : Dec (i ≡ k) → (i < k → get_or positions i 0 < 3) → get_or positions i 0 < 3
-    by (yes e) before = rw e (parts (picksIn k order positions) _ w).1.0
+    by (yes e) before = rw e (parts (picks_in k order positions) _ w).1.0
     by (no ne) before = before (omega arith)

@@ -1,10 +1,10 @@
 // What each slot knows of the keys that touch it, counted up from cleared buffers.
 ghost use Rattle.std.specs.Prelude.{◌≡◌, length};
-ghost use Rattle.machine.specs.Machine.{sumsOf};
+ghost use Rattle.machine.specs.Machine.{sums_of};
 ghost use Rattle.machine.specs.SumsByKey as machine;
-ghost use Rattle.machine.specs.SumsByKey.{addKey};
-ghost use Rattle.peel.specs.Segments.{slotsIn, hashesOf};
-ghost use Rattle.peel.specs.Buffers.{sumsIn};
+ghost use Rattle.machine.specs.SumsByKey.{add_key};
+ghost use Rattle.peel.specs.Segments.{slots_in, hashes_of};
+ghost use Rattle.peel.specs.Buffers.{sums_in};
 ghost use Rattle.peel.specs.Requires.{CanTouch, CanAdd, CanCount};
 
 use arith::murmur3::mix;
@@ -13,8 +13,8 @@ use arith::slots::slots;
 // One key at one slot: the count goes up by one, its low two bits take the position, and the sum takes the hash.
 fn touch(counts: &mut [u16], sums: &mut [u64], hash: u64, position: u16, slot: u32)
     requires { CanTouch counts.old sums.old position slot }
-    ensures { sumsIn counts.new sums.new
-        ≡ machine.touch hash position slot (sumsIn counts.old sums.old) }
+    ensures { sums_in counts.new sums.new
+        ≡ machine.touch hash position slot (sums_in counts.old sums.old) }
 {
     let i = slot as usize;
     counts[i] = (counts[i] + 4) ^ position;
@@ -24,8 +24,8 @@ fn touch(counts: &mut [u16], sums: &mut [u64], hash: u64, position: u16, slot: u
 // One key at its three slots.
 fn add_key(counts: &mut [u16], sums: &mut [u64], hash: u64, segment: u32, mask: u32, span: u32)
     requires { CanAdd segment mask span counts.old sums.old }
-    ensures { sumsIn counts.new sums.new
-        ≡ addKey (slotsIn segment mask span hash) hash (sumsIn counts.old sums.old) }
+    ensures { sums_in counts.new sums.new
+        ≡ add_key (slots_in segment mask span hash) hash (sums_in counts.old sums.old) }
 {
     let three = slots(hash, segment, mask, span);
     touch(counts, sums, hash, 0, three[0]);
@@ -44,8 +44,8 @@ pub fn count_keys(
     sums: &mut [u64],
 )
     requires { CanCount segment mask span keys.now counts.old sums.old }
-    ensures { sumsIn counts.new sums.new
-        ≡ sumsOf (slotsIn segment mask span) (length counts.old) (hashesOf seed keys.now) }
+    ensures { sums_in counts.new sums.new
+        ≡ sums_of (slots_in segment mask span) (length counts.old) (hashes_of seed keys.now) }
 {
     let mut i = 0;
     while i < keys.len() {

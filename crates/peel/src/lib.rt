@@ -1,8 +1,8 @@
 // One attempt of document 01, on lent buffers: from the keys to what was taken. It knows no width of a fingerprint.
 ghost use Rattle.std.specs.Prelude.{◌≡◌, length};
-ghost use Rattle.peel.specs.Buffers.{picksIn};
+ghost use Rattle.peel.specs.Buffers.{picks_in};
 ghost use Rattle.peel.specs.Requires.{CanRun};
-ghost use Rattle.peel.specs.Picks.{picksOfKeys};
+ghost use Rattle.peel.specs.Picks.{picks_of_keys};
 
 pub mod clear;
 mod count;
@@ -28,8 +28,8 @@ pub fn run(
     positions: &mut [u8],
 ) -> usize
     requires { CanRun segment mask span keys.now lone.old counts.old sums.old order.old positions.old }
-    ensures { picksIn result order.new positions.new
-        ≡ picksOfKeys segment mask span (length counts.old) seed keys.now }
+    ensures { picks_in result order.new positions.new
+        ≡ picks_of_keys segment mask span (length counts.old) seed keys.now }
 {
     count_keys(keys, seed, segment, mask, span, counts, sums);
     let stacked = stack_lone(counts, lone);

@@ -1,8 +1,8 @@
 // Keys taken, each at a slot that it alone touches, until no stacked slot is left.
 ghost use Rattle.std.specs.Prelude.{◌≡◌, ◌%◌, ◌<◌};
-ghost use Rattle.machine.specs.Machine.{picksFrom};
-ghost use Rattle.peel.specs.Segments.{slotsIn};
-ghost use Rattle.peel.specs.Buffers.{sumsIn, picksIn};
+ghost use Rattle.machine.specs.Machine.{picks_from};
+ghost use Rattle.peel.specs.Segments.{slots_in};
+ghost use Rattle.peel.specs.Buffers.{sums_in, picks_in};
 ghost use Rattle.peel.specs.Requires.{CanRelease, Released, CanTake, TookKey, CanTakeAll};
 
 use arith::slots::slots;
@@ -80,8 +80,8 @@ pub fn take_all(
     span: u32,
 ) -> usize
     requires { CanTakeAll segment mask span counts.old sums.old lone.old stacked order.old positions.old }
-    ensures { picksIn result order.new positions.new
-        ≡ picksFrom (slotsIn segment mask span) (sumsIn counts.old sums.old) }
+    ensures { picks_in result order.new positions.new
+        ≡ picks_from (slots_in segment mask span) (sums_in counts.old sums.old) }
 {
     let mut top = stacked;
     let mut taken: usize = 0;

@@ -2,10 +2,10 @@
 use Rattle.std.specs.Prelude.{◌≡◌, refl, List, ℕ}
 use Rattle.std.proofs.Common.{ap}
 use Rattle.answers.specs.Answers.{Answer, Outcome, outcome}
-use Rattle.answers.specs.OneNumber.{refusal-number}
-use Rattle.answers.specs.OneAnswer.{answer_of, only-answer, only-outcome}
+use Rattle.answers.specs.OneNumber.{refusal_number}
+use Rattle.answers.specs.OneAnswer.{answer_of, only_answer, only_outcome}
 use Rattle.fuse.specs.Memory.{Memory}
-use Rattle.fuse.specs.Build.{Success, buildOf, attemptOf}
+use Rattle.fuse.specs.Build.{Success, build_of, attempt_of}
 use Rattle.plan.specs.declared.BuildAnswer.{BuildAnswer}
 use Rattle.plan.specs.declared.BuildAnswer.TheVariants.{Built, Refused}
 use Rattle.plan.specs.Paper.{paper}
@@ -22,14 +22,14 @@ back = answer_of (λ (s : Success). Built s.descriptor s.slots s.attempt) Refuse
 told : (r : BuildAnswer) → back (paper r) ≡ r
 unfolding back
 told (Built d slots attempt) = refl
-told (Refused why) = ap Refused (refusal-number why)
+told (Refused why) = ap Refused (refusal_number why)
 
 -- an answer is told by its reading
-pub one-reading : (r s : BuildAnswer) → paper r ≡ paper s → r ≡ s
-one-reading r s e = only-answer paper back told r s e refl
+pub one_reading : (r s : BuildAnswer) → paper r ≡ paper s → r ≡ s
+one_reading r s e = only_answer paper back told r s e refl
 
-pub one-build : (w : ℕ) → OneAnswer (buildOf w)
-one-build w keys limit before r s after other = only-outcome paper back told r s after other
+pub one_build : (w : ℕ) → OneAnswer (build_of w)
+one_build w keys limit before r s after other = only_outcome paper back told r s after other
 
-pub one-attempt : (w : ℕ) → OneAnswer (attemptOf w)
-one-attempt w keys number before r s after other = only-outcome paper back told r s after other
+pub one_attempt : (w : ℕ) → OneAnswer (attempt_of w)
+one_attempt w keys number before r s after other = only_outcome paper back told r s after other

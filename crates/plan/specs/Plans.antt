@@ -3,14 +3,14 @@
 use Rattle.std.specs.Prelude.{◌≡◌, List, [], ℕ, ◌+◌, ◌-◌, ◌≤◌, length, take, replicate}
 use Rattle.answers.specs.Answers.{number_of, refuses, gives, Outcome, outcome}
 use Rattle.descriptor.specs.declared.Descriptor.{Descriptor}
-use Rattle.arith.specs.Fingerprint.{fingerprintOf}
+use Rattle.arith.specs.Fingerprint.{fingerprint_of}
 use Rattle.stuck.specs.Fill.{fill}
 use Rattle.machine.specs.Machine.{stores}
-use Rattle.peel.specs.Segments.{slotsIn}
-use Rattle.peel.specs.Buffers.{picksIn}
+use Rattle.peel.specs.Segments.{slots_in}
+use Rattle.peel.specs.Buffers.{picks_in}
 use Rattle.peel.specs.Requires.{CanFill}
 use Rattle.fuse.specs.Memory.{Memory, memory, begins, zeroed}
-use Rattle.fuse.specs.Build.{Success, success, searchOf}
+use Rattle.fuse.specs.Build.{Success, success, search_of}
 use Rattle.plan.specs.declared.Plan.{Plan}
 use Rattle.plan.specs.declared.Plan.TheVariants.{Found, Stuck, Refused}
 
@@ -31,28 +31,28 @@ abbrev pub zeros : List ℕ → List ℕ
 zeros all = replicate (length all) 0
 
 -- what n keys taken fill in with fingerprints of w bits
-abbrev pub fillFrom : (w : ℕ) → Descriptor → (n : ℕ) (order positions room : List ℕ) → List ℕ
-fillFrom w d n order positions room =
-    fill (stores (slotsIn d.segment_length d.segment_length_mask d.segment_count_length) (fingerprintOf w) (picksIn n order positions)) room
+abbrev pub fill_from : (w : ℕ) → Descriptor → (n : ℕ) (order positions room : List ℕ) → List ℕ
+fill_from w d n order positions room =
+    fill (stores (slots_in d.segment_length d.segment_length_mask d.segment_count_length) (fingerprint_of w) (picks_in n order positions)) room
 
 abbrev pub CanFillFrom : Descriptor → (n : ℕ) (order positions room : List ℕ) → Type 0
 CanFillFrom d n order positions room = CanFill d.segment_length d.segment_length_mask d.segment_count_length room order positions n
 
 -- the plan for n keys carried out with fingerprints of w bits: `fingerprints` is the room for them, `m` the scratch that the plan left
-abbrev pub carriedOut : (w n : ℕ) → Plan → (fingerprints : List ℕ) → Memory → Outcome Success Memory
-carriedOut w n (Refused why) fingerprints m = outcome (refuses (number_of why)) (beside fingerprints m)
-carriedOut w n (Stuck slots) fingerprints m = outcome (refuses 6) (beside (zeroed slots fingerprints) m)
-carriedOut w n (Found d slots attempt) fingerprints m =
+abbrev pub carried_out : (w n : ℕ) → Plan → (fingerprints : List ℕ) → Memory → Outcome Success Memory
+carried_out w n (Refused why) fingerprints m = outcome (refuses (number_of why)) (beside fingerprints m)
+carried_out w n (Stuck slots) fingerprints m = outcome (refuses 6) (beside (zeroed slots fingerprints) m)
+carried_out w n (Found d slots attempt) fingerprints m =
     outcome (gives (success d slots attempt))
-    (memory (begins slots (fillFrom w d n (take (n + 1) m.order) (take n m.positions) (replicate slots 0)) fingerprints) m.lone m.counts m.sums
+    (memory (begins slots (fill_from w d n (take (n + 1) m.order) (take n m.positions) (replicate slots 0)) fingerprints) m.lone m.counts m.sums
     (zeroed n m.positions) (zeroed (n + 1) m.order) m.starts)
 
 -- the keys taken are there, and the fingerprints have room
 pub record Storable (n : ℕ) (d : Descriptor) (slots room : ℕ) (m : Memory) : Type 0 where
-  pub in-room : slots ≤ room
-  pub in-positions : n ≤ length m.positions
+  pub in_room : slots ≤ room
+  pub in_positions : n ≤ length m.positions
   pub in_order : n + 1 ≤ length m.order
-  pub can-fill : CanFillFrom d n (take (n + 1) m.order) (take n m.positions) (replicate slots 0)
+  pub can_fill : CanFillFrom d n (take (n + 1) m.order) (take n m.positions) (replicate slots 0)
 
 -- what carrying it out asks, with room for `room` fingerprints
 abbrev pub CanCarryOut : (n room : ℕ) → Plan → Memory → Type 0
@@ -63,5 +63,5 @@ CanCarryOut n room (Found d slots attempt) m = Storable n d slots room m
 -- from the scratch `before` to the scratch `after`; check 2 is of `last`
 pub record Planned (keys : List ℕ) (first last room : ℕ) (plan : Plan) (before after : Memory) : Type 0 where
   pub can : CanCarryOut (length keys) room plan after
-  pub comes-out : (w : ℕ) (fingerprints : List ℕ) → length fingerprints ≡ room
-      → carriedOut w (length keys) plan fingerprints after ≡ searchOf w keys last first (last + 1 - first) (beside fingerprints before)
+  pub comes_out : (w : ℕ) (fingerprints : List ℕ) → length fingerprints ≡ room
+      → carried_out w (length keys) plan fingerprints after ≡ search_of w keys last first (last + 1 - first) (beside fingerprints before)

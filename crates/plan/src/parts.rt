@@ -1,7 +1,7 @@
 // The search and its end on buffers of exactly the needed lengths.
 ghost use Rattle.std.specs.Prelude.{◌≡◌, ◌≤◌, length};
 ghost use Rattle.plan.specs.Plans.{scratch, zeros};
-ghost use Rattle.plan.specs.Parts.{CanPlan, noneFound, Ended};
+ghost use Rattle.plan.specs.Parts.{CanPlan, none_found, Ended};
 
 use crate::Plan;
 use crate::scratch::{clear_tables, clear_taken};
@@ -13,7 +13,7 @@ use repeats::repeated;
 // No attempt was free: 5 where two keys are equal, else 6. What the last attempt took is zeroed.
 fn none_found(keys: &[u64], slots: u32, positions: &mut [u8], order: &mut [u64]) -> Plan
     requires { length keys.now ≤ length order.old }
-    ensures { (result ≡ noneFound keys.now slots) × (positions.new ≡ zeros positions.old) × (order.new ≡ zeros order.old) }
+    ensures { (result ≡ none_found keys.now slots) × (positions.new ≡ zeros positions.old) × (order.new ≡ zeros order.old) }
 {
     let n = keys.len();
     let repeats = repeated(keys, &mut order[..n]);

@@ -5,53 +5,53 @@ use Rattle.std.proofs.Common.{sym, ap}
 use borrow.Author.Tests.{eq-eqb, ne_eqb}
 use Rattle.std.specs.Int.Bits.{bit_xor}
 use Rattle.answers.specs.Answers.{gives}
-use Rattle.arith.specs.Murmur3.{hashOf}
-use Rattle.arith.specs.Fingerprint.{fingerprintOf}
+use Rattle.arith.specs.Murmur3.{hash_of}
+use Rattle.arith.specs.Fingerprint.{fingerprint_of}
 use Rattle.arith.specs.Slots.{slots_of}
-use Rattle.stuck.specs.Fill.{queryXor}
-use Rattle.peel.specs.SlotsApart.{in-room}
+use Rattle.stuck.specs.Fill.{query_xor}
+use Rattle.peel.specs.SlotsApart.{in_room}
 use Rattle.descriptor.specs.declared.Descriptor.{Descriptor}
-use Rattle.fuse.specs.Query.{leftOver, fingerprintsFor, containsOf, told}
-use Rattle.fuse.specs.AcceptedSlots.{accepted-segments, accepted-slots}
+use Rattle.fuse.specs.Query.{left_over, fingerprints_for, contains_of, told}
+use Rattle.fuse.specs.AcceptedSlots.{accepted_segments, accepted_slots}
 use Rattle.query.specs.Suited.{Suited}
 
 -- what the code makes of a fingerprint and three slots
-abbrev pub xorAt : ℕ → List ℕ → List ℕ → ℕ
-xorAt fingerprint slots values =
+abbrev pub xor_at : ℕ → List ℕ → List ℕ → ℕ
+xor_at fingerprint slots values =
     bit_xor (bit_xor (bit_xor fingerprint (get_or values (get_or slots 0 0) 0)) (get_or values (get_or slots 1 0) 0)) (get_or values (get_or slots 2 0) 0)
 
 -- what the code of the slots asks
 pub slots-room : {d : Descriptor} {fingerprints : List ℕ} → Suited d fingerprints
     → d.segment_count_length + 2 * d.segment_length < 2 ^ 32
-slots-room {d} s = in-room (accepted-segments d s.good)
+slots-room {d} s = in_room (accepted_segments d s.good)
 
 -- each slot has a fingerprint, and a C program is told no where something is left over, and yes where nothing is
 pub record Answered (w : ℕ) (d : Descriptor) (fingerprints : List ℕ) (key fingerprint : ℕ) (slots : List ℕ) : Type 0 where
   pub in0 : get_or slots 0 0 < length fingerprints
   pub in1 : get_or slots 1 0 < length fingerprints
   pub in2 : get_or slots 2 0 < length fingerprints
-  pub no : xorAt fingerprint slots fingerprints ≢ 0 → 0 ≡ told (containsOf w d fingerprints key)
-  pub yes : xorAt fingerprint slots fingerprints ≡ 0 → 1 ≡ told (containsOf w d fingerprints key)
+  pub no : xor_at fingerprint slots fingerprints ≢ 0 → 0 ≡ told (contains_of w d fingerprints key)
+  pub yes : xor_at fingerprint slots fingerprints ≡ 0 → 1 ≡ told (contains_of w d fingerprints key)
 
 module _ (w : ℕ) (d : Descriptor) (fingerprints : List ℕ) (key : ℕ) (s : Suited d fingerprints) where
-  listed-is : (listed : Bool) {fingerprint : ℕ} {slots : List ℕ} → fingerprint ≡ fingerprintOf w (hashOf key d.seed)
-      → slots ≡ slots_of (hashOf key d.seed) d.segment_length d.segment_length_mask d.segment_count_length
-      → eqb (xorAt fingerprint slots fingerprints) 0 ≡ listed → gives listed ≡ containsOf w d fingerprints key
-  unfolding containsOf leftOver queryXor
-  listed-is listed f are e = simp (s.good, eq-eqb (length fingerprints) (fingerprintsFor d) s.whole) (ap gives (sym (rw (are, f) at e)))
+  listed_is : (listed : Bool) {fingerprint : ℕ} {slots : List ℕ} → fingerprint ≡ fingerprint_of w (hash_of key d.seed)
+      → slots ≡ slots_of (hash_of key d.seed) d.segment_length d.segment_length_mask d.segment_count_length
+      → eqb (xor_at fingerprint slots fingerprints) 0 ≡ listed → gives listed ≡ contains_of w d fingerprints key
+  unfolding contains_of left_over query_xor
+  listed_is listed f are e = simp (s.good, eq-eqb (length fingerprints) (fingerprints_for d) s.whole) (ap gives (sym (rw (are, f) at e)))
 
   -- of what the code has made of the key
-  pub answered : {hash fingerprint : ℕ} {slots : List ℕ} → hash ≡ hashOf key d.seed → fingerprint ≡ fingerprintOf w hash
+  pub answered : {hash fingerprint : ℕ} {slots : List ℕ} → hash ≡ hash_of key d.seed → fingerprint ≡ fingerprint_of w hash
       → slots ≡ slots_of hash d.segment_length d.segment_length_mask d.segment_count_length
       → Answered w d fingerprints key fingerprint slots
   answered {hash} {fingerprint} {slots} is f made =
-      let are : slots ≡ slots_of (hashOf key d.seed) d.segment_length d.segment_length_mask d.segment_count_length = rw is at made in
-      let own : fingerprint ≡ fingerprintOf w (hashOf key d.seed) = rw is at f in
-      let inside = accepted-slots d s.good key in
+      let are : slots ≡ slots_of (hash_of key d.seed) d.segment_length d.segment_length_mask d.segment_count_length = rw is at made in
+      let own : fingerprint ≡ fingerprint_of w (hash_of key d.seed) = rw is at f in
+      let inside = accepted_slots d s.good key in
       record {
         in0 = rw (are, s.whole) inside.in0;
         in1 = rw (are, s.whole) inside.in1;
         in2 = rw (are, s.whole) inside.in2;
-        no = λ over. ap told (listed-is false own are (ne_eqb _ _ over));
-        yes = λ none. ap told (listed-is true own are (eq-eqb _ _ none));
+        no = λ over. ap told (listed_is false own are (ne_eqb _ _ over));
+        yes = λ none. ap told (listed_is true own are (eq-eqb _ _ none));
       }

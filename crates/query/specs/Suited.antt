@@ -4,52 +4,52 @@ use Rattle.std.specs.Prelude.{◌≡◌, refl, Bool, true, false, not, List, ℕ
 use Rattle.std.proofs.Common.{sym, ap, ◌∙◌, eqb-true}
 use Rattle.std.proofs.lemmas.Bool.{false≢true, not-true, not-false}
 use Rattle.answers.specs.Answers.{Answer, refuses, gives}
-use Rattle.answers.specs.Checks.{Done, done, refuseIf, ◌then◌}
+use Rattle.answers.specs.Checks.{Done, done, refuse_if, ◌then◌}
 use Rattle.descriptor.specs.declared.Descriptor.{Descriptor}
-use Rattle.descriptor.specs.Descriptor.{checkOf}
-use Rattle.fuse.specs.Query.{yes?, fingerprintsFor, accepts, containsOf, told}
-use Rattle.query.specs.FirstFault.{passed?, suitsOf, firstFault}
+use Rattle.descriptor.specs.Descriptor.{check_of}
+use Rattle.fuse.specs.Query.{yes?, fingerprints_for, accepts, contains_of, told}
+use Rattle.query.specs.FirstFault.{passed?, suits_of, first_fault}
 
 -- of a descriptor and the fingerprints asked with it
 abbrev pub suits? : Descriptor → List ℕ → Bool
-suits? d fingerprints = suitsOf d.segment_length d.segment_length_mask d.segment_count_length (length fingerprints)
+suits? d fingerprints = suits_of d.segment_length d.segment_length_mask d.segment_count_length (length fingerprints)
 
 -- the checks are document 01's
-pub suits-accepts : (d : Descriptor) (fingerprints : List ℕ) → suits? d fingerprints ≡ passed? (accepts d fingerprints)
-unfolding checkOf
-suits-accepts d fingerprints = refl
+pub suits_accepts : (d : Descriptor) (fingerprints : List ℕ) → suits? d fingerprints ≡ passed? (accepts d fingerprints)
+unfolding check_of
+suits_accepts d fingerprints = refl
 
 -- ---- where they pass
 
 pub record Suited (d : Descriptor) (fingerprints : List ℕ) : Type 0 where
-  pub good : checkOf d ≡ gives done
-  pub whole : length fingerprints ≡ fingerprintsFor d
+  pub good : check_of d ≡ gives done
+  pub whole : length fingerprints ≡ fingerprints_for d
 
-pub both-passed : (checks : Answer Done) (same : Bool) → passed? (checks then refuseIf (not same) 11) ≡ true → (checks ≡ gives done) × (same ≡ true)
-both-passed (refuses number) same e = absurd (false≢true e)
-both-passed (gives done) false e = absurd (false≢true e)
-both-passed (gives done) true e = (refl, refl)
+pub both_passed : (checks : Answer Done) (same : Bool) → passed? (checks then refuse_if (not same) 11) ≡ true → (checks ≡ gives done) × (same ≡ true)
+both_passed (refuses number) same e = absurd (false≢true e)
+both_passed (gives done) false e = absurd (false≢true e)
+both_passed (gives done) true e = (refl, refl)
 
 pub suited : (d : Descriptor) (fingerprints : List ℕ) {suits : Bool} → suits ≡ suits? d fingerprints → not suits ≡ false → Suited d fingerprints
 suited d fingerprints is left =
     let both =
-    both-passed (checkOf d) (eqb (length fingerprints) (fingerprintsFor d)) (sym (is ∙ suits-accepts d fingerprints) ∙ not-false _ left)
+    both_passed (check_of d) (eqb (length fingerprints) (fingerprints_for d)) (sym (is ∙ suits_accepts d fingerprints) ∙ not-false _ left)
     in
-    record { good = both.0; whole = eqb-true (length fingerprints) (fingerprintsFor d) both.1 }
+    record { good = both.0; whole = eqb-true (length fingerprints) (fingerprints_for d) both.1 }
 
 -- ---- where they do not
 
-first-fault : (checks : Answer Done) (same listed : Bool) → passed? (checks then refuseIf (not same) 11) ≡ false
-    → checks then refuses 11 ≡ (checks then refuseIf (not same) 11) then gives listed
-first-fault (refuses number) same listed e = refl
-first-fault (gives done) false listed e = refl
-first-fault (gives done) true listed e = absurd (false≢true (sym e))
+first_fault_lem : (checks : Answer Done) (same listed : Bool) → passed? (checks then refuse_if (not same) 11) ≡ false
+    → checks then refuses 11 ≡ (checks then refuse_if (not same) 11) then gives listed
+first_fault_lem (refuses number) same listed e = refl
+first_fault_lem (gives done) false listed e = refl
+first_fault_lem (gives done) true listed e = absurd (false≢true (sym e))
 
 pub unsuited : (w : ℕ) (d : Descriptor) (fingerprints : List ℕ) (key : ℕ) {suits : Bool} {code : ℕ} → suits ≡ suits? d fingerprints → not suits ≡ true
-    → code ≡ told (firstFault d.segment_length d.segment_length_mask d.segment_count_length) → code ≡ told (containsOf w d fingerprints key)
-unfolding containsOf checkOf
+    → code ≡ told (first_fault d.segment_length d.segment_length_mask d.segment_count_length) → code ≡ told (contains_of w d fingerprints key)
+unfolding contains_of check_of
 unsuited w d fingerprints key is taken e =
     e
     ∙ ap told
-    (first-fault (checkOf d) (eqb (length fingerprints) (fingerprintsFor d)) (yes? w d fingerprints key)
-    (sym (is ∙ suits-accepts d fingerprints) ∙ not-true _ taken))
+    (first_fault_lem (check_of d) (eqb (length fingerprints) (fingerprints_for d)) (yes? w d fingerprints key)
+    (sym (is ∙ suits_accepts d fingerprints) ∙ not-true _ taken))

@@ -2,15 +2,15 @@
 use Rattle.std.specs.Prelude.{◌≡◌, refl, Bool, true, false, not, cond, List, ℕ, eqb, length}
 use Rattle.std.proofs.Common.{ap, ◌∙◌, arith, ne_eqb}
 use Rattle.answers.specs.Answers.{code_of, Answer, refuses, gives}
-use Rattle.answers.specs.Checks.{Done, done, refuseIf, ◌then◌}
+use Rattle.answers.specs.Checks.{Done, done, refuse_if, ◌then◌}
 use Rattle.descriptor.specs.declared.Descriptor.{Descriptor}
-use Rattle.descriptor.specs.Descriptor.{checkOf}
-use Rattle.fuse.specs.Query.{yes?, fingerprintsFor, containsOf, told}
-use Rattle.query.specs.FirstFault.{answerTold}
+use Rattle.descriptor.specs.Descriptor.{check_of}
+use Rattle.fuse.specs.Query.{yes?, fingerprints_for, contains_of, told}
+use Rattle.query.specs.FirstFault.{answer_told}
 
 -- what checks 8 to 10, then 11, then the fingerprints say
 abbrev said : (checks : Answer Done) (same listed : Bool) → Answer Bool
-said checks same listed = (checks then refuseIf (not same) 11) then gives listed
+said checks same listed = (checks then refuse_if (not same) 11) then gives listed
 
 read_back : (checks : Answer Done) (same listed : Bool) → let code = told (said checks same listed) in
     cond (eqb code 0) (gives false) (cond (eqb code 1) (gives true) (checks then refuses 11)) ≡ said checks same listed
@@ -20,7 +20,7 @@ read_back (gives done) true false = refl
 read_back (gives done) true true = refl
 
 pub told_back : (w : ℕ) (d : Descriptor) (fingerprints : List ℕ) (key : ℕ) {code : ℕ}
-    → code ≡ told (containsOf w d fingerprints key) → answerTold code d ≡ containsOf w d fingerprints key
-unfolding containsOf checkOf
+    → code ≡ told (contains_of w d fingerprints key) → answer_told code d ≡ contains_of w d fingerprints key
+unfolding contains_of check_of
 told_back w d fingerprints key e =
-    ap (λ (code : ℕ). answerTold code d) e ∙ read_back (checkOf d) (eqb (length fingerprints) (fingerprintsFor d)) (yes? w d fingerprints key)
+    ap (λ (code : ℕ). answer_told code d) e ∙ read_back (check_of d) (eqb (length fingerprints) (fingerprints_for d)) (yes? w d fingerprints key)

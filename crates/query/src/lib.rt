@@ -3,7 +3,7 @@ ghost use Rattle.std.specs.Prelude.{◌≡◌};
 ghost use Rattle.answers.specs.Answers.{number_of, refuses};
 ghost use Rattle.fuse.specs.Query.{told};
 ghost use Rattle.query.specs.Paper.{paper};
-ghost use Rattle.query.specs.FirstFault.{suitsOf, firstFault, answerTold};
+ghost use Rattle.query.specs.FirstFault.{suits_of, first_fault, answer_told};
 
 use answers::Refusal;
 use descriptor::{CheckAnswer, Descriptor, LONGEST, LONGEST_SEGMENT, SHORTEST_SEGMENT};
@@ -18,7 +18,7 @@ pub enum ContainsAnswer {
 // Whether checks 8 to 11 pass, with this many fingerprints given. The order of the tests is free: of those tried, this one compiles to
 // the fastest code.
 pub fn suits(segment: u32, mask: u32, span: u32, given: usize) -> bool
-    ensures { result ≡ suitsOf segment mask span given }
+    ensures { result ≡ suits_of segment mask span given }
 {
     let total = (span as u64) + 2 * (segment as u64);
     if total != given as u64 {
@@ -47,14 +47,14 @@ pub fn suits(segment: u32, mask: u32, span: u32, given: usize) -> bool
 
 // What a C program is told where one of checks 8 to 11 fails.
 pub fn refused(segment: u32, mask: u32, span: u32) -> u32
-    ensures { result ≡ told (firstFault segment mask span) }
+    ensures { result ≡ told (first_fault segment mask span) }
 {
     answers::code(refusal(segment, mask, span))
 }
 
 // Which of checks 8 to 11 fails first, where one does. None looks at the seed.
 fn refusal(segment: u32, mask: u32, span: u32) -> Refusal
-    ensures { refuses (number_of result) ≡ firstFault segment mask span }
+    ensures { refuses (number_of result) ≡ first_fault segment mask span }
 {
     let checked = descriptor::check(Descriptor {
         seed: 0,
@@ -70,7 +70,7 @@ fn refusal(segment: u32, mask: u32, span: u32) -> Refusal
 
 // The answer of which a C program is told this number.
 pub fn answer(code: u32, d: Descriptor) -> ContainsAnswer
-    ensures { paper result ≡ answerTold code d }
+    ensures { paper result ≡ answer_told code d }
 {
     match code {
         0 => ContainsAnswer::No,

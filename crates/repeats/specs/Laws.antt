@@ -9,18 +9,18 @@ use Rattle.repeats.specs.Repeats.{among?, repeats?, Twice}
 
 -- ---- true exactly when two places hold equal keys
 
-pub among-at : (key : ℕ) (keys : List ℕ) (i : ℕ) → i < length keys → get_or keys i 0 ≡ key → among? key keys ≡ true
+pub among_at : (key : ℕ) (keys : List ℕ) (i : ℕ) → i < length keys → get_or keys i 0 ≡ key → among? key keys ≡ true
 unfolding among?
-among-at key [] i h e = absurd (not-suc-le-zero h)
-among-at key (other ∷ keys) zero h e = rw (eq-eqb other key e)
-among-at key (other ∷ keys) (suc i) h e = rw (among-at key keys i (le_of_suc-le-suc h) e) (or-true (eqb other key))
+among_at key [] i h e = absurd (not-suc-le-zero h)
+among_at key (other ∷ keys) zero h e = rw (eq-eqb other key e)
+among_at key (other ∷ keys) (suc i) h e = rw (among_at key keys i (le_of_suc-le-suc h) e) (or-true (eqb other key))
 
-pub repeats-at : (keys : List ℕ) (i j : ℕ) → i < j → j < length keys → get_or keys i 0 ≡ get_or keys j 0 → repeats? keys ≡ true
+pub repeats_at : (keys : List ℕ) (i j : ℕ) → i < j → j < length keys → get_or keys i 0 ≡ get_or keys j 0 → repeats? keys ≡ true
 unfolding repeats?
-repeats-at [] i j h k e = absurd (not-suc-le-zero k)
-repeats-at (key ∷ keys) i zero h k e = absurd (not-suc-le-zero h)
-repeats-at (key ∷ keys) zero (suc j) h k e = rw (among-at key keys j (le_of_suc-le-suc k) (sym e))
-repeats-at (key ∷ keys) (suc i) (suc j) h k e = rw (repeats-at keys i j (le_of_suc-le-suc h) (le_of_suc-le-suc k) e) (or-true (among? key keys))
+repeats_at [] i j h k e = absurd (not-suc-le-zero k)
+repeats_at (key ∷ keys) i zero h k e = absurd (not-suc-le-zero h)
+repeats_at (key ∷ keys) zero (suc j) h k e = rw (among_at key keys j (le_of_suc-le-suc k) (sym e))
+repeats_at (key ∷ keys) (suc i) (suc j) h k e = rw (repeats_at keys i j (le_of_suc-le-suc h) (le_of_suc-le-suc k) e) (or-true (among? key keys))
 
 -- a place that holds the key
 record Place (key : ℕ) (keys : List ℕ) : Type 0 where
@@ -50,40 +50,40 @@ twice (key ∷ keys) h = by (among? key keys) refl (twice keys)
         let t = rest (rw e at h) in
         record { first = suc t.first; second = suc t.second; apart = suc-le-suc t.apart; within = suc-le-suc t.within; equal = t.equal }
 
-pub repeats-iff : (keys : List ℕ) → (repeats? keys ≡ true) ↔ Twice keys
-repeats-iff keys = (twice keys, λ t. repeats-at keys t.first t.second t.apart t.within t.equal)
+pub repeats_iff : (keys : List ℕ) → (repeats? keys ≡ true) ↔ Twice keys
+repeats_iff keys = (twice keys, λ t. repeats_at keys t.first t.second t.apart t.within t.equal)
 
 -- ---- the order is all one
 
-or-left-comm : (a b c : Bool) → (a || (b || c)) ≡ (b || (a || c))
-or-left-comm true true c = refl
-or-left-comm true false c = refl
-or-left-comm false b c = refl
+or_left_comm : (a b c : Bool) → (a || (b || c)) ≡ (b || (a || c))
+or_left_comm true true c = refl
+or_left_comm true false c = refl
+or_left_comm false b c = refl
 
-or-crossed : (e p q r : Bool) → ((e || p) || (q || r)) ≡ ((e || q) || (p || r))
-or-crossed true p q r = refl
-or-crossed false p q r = or-left-comm p q r
+or_crossed : (e p q r : Bool) → ((e || p) || (q || r)) ≡ ((e || q) || (p || r))
+or_crossed true p q r = refl
+or_crossed false p q r = or_left_comm p q r
 
-eqb-sym : (x y : ℕ) → eqb x y ≡ eqb y x
-eqb-sym x y = by (eqb y x) refl
+eqb_sym : (x y : ℕ) → eqb x y ≡ eqb y x
+eqb_sym x y = by (eqb y x) refl
   where
     by : (b : Bool) → eqb y x ≡ b → eqb x y ≡ b
     by true e = eq-eqb x y (sym (eqb-true y x e))
     by false e = ne_eqb x y (λ q. false≢true (sym e ∙ eq-eqb y x (sym q)))
 
-among-reordered : (key : ℕ) {a b : List ℕ} → Reordered a b → among? key a ≡ among? key b
+among_reordered : (key : ℕ) {a b : List ℕ} → Reordered a b → among? key a ≡ among? key b
 unfolding among?
-among-reordered key same = refl
-among-reordered key (swap x y {a = a}) = or-left-comm (eqb x key) (eqb y key) (among? key a)
-among-reordered key (under x r) = ap (λ (t : Bool). eqb x key || t) (among-reordered key r)
-among-reordered key (then r q) = among-reordered key r ∙ among-reordered key q
+among_reordered key same = refl
+among_reordered key (swap x y {a = a}) = or_left_comm (eqb x key) (eqb y key) (among? key a)
+among_reordered key (under x r) = ap (λ (t : Bool). eqb x key || t) (among_reordered key r)
+among_reordered key (then r q) = among_reordered key r ∙ among_reordered key q
 
-pub repeats-reordered : {a b : List ℕ} → Reordered a b → repeats? a ≡ repeats? b
+pub repeats_reordered : {a b : List ℕ} → Reordered a b → repeats? a ≡ repeats? b
 unfolding repeats? among?
-repeats-reordered same = refl
-repeats-reordered (swap x y {a = a}) = rw (eqb-sym y x) (or-crossed (eqb x y) (among? x a) (among? y a) (repeats? a))
-repeats-reordered (under x r) = ap₂ ◌||◌ (among-reordered x r) (repeats-reordered r)
-repeats-reordered (then r q) = repeats-reordered r ∙ repeats-reordered q
+repeats_reordered same = refl
+repeats_reordered (swap x y {a = a}) = rw (eqb_sym y x) (or_crossed (eqb x y) (among? x a) (among? y a) (repeats? a))
+repeats_reordered (under x r) = ap₂ ◌||◌ (among_reordered x r) (repeats_reordered r)
+repeats_reordered (then r q) = repeats_reordered r ∙ repeats_reordered q
 
 -- ---- keys that rise have no two equal
 
@@ -98,8 +98,8 @@ above key (other ∷ keys) h r =
     let lt : key < other = h (suc-le-suc zero-le) in
     rw (ne_eqb other key (λ e. omega arith)) (above key keys (λ s. omega (arith, r 0 (suc-le-suc s))) (λ i s. r (suc i) (suc-le-suc s)))
 
-pub repeats-rising : (keys : List ℕ) → Rising keys → repeats? keys ≡ false
+pub repeats_rising : (keys : List ℕ) → Rising keys → repeats? keys ≡ false
 unfolding repeats?
-repeats-rising [] r = refl
-repeats-rising (key ∷ keys) r =
-    rw (above key keys (λ s. r 0 (suc-le-suc s)) (λ i s. r (suc i) (suc-le-suc s))) (repeats-rising keys (λ i s. r (suc i) (suc-le-suc s)))
+repeats_rising [] r = refl
+repeats_rising (key ∷ keys) r =
+    rw (above key keys (λ s. r 0 (suc-le-suc s)) (λ i s. r (suc i) (suc-le-suc s))) (repeats_rising keys (λ i s. r (suc i) (suc-le-suc s)))

@@ -1,5 +1,5 @@
 -- Document 01, "Answers", number 5: two keys equal. `Twice` says it of a list of keys, and `repeats?` is its test, which the code's
--- promise names; that the two agree is `repeats-iff` of Laws. Assumes nothing.
+-- promise names; that the two agree is `repeats_iff` of Laws. Assumes nothing.
 use Rattle.std.specs.Prelude.{◌≡◌, Bool, false, ◌||◌, List, [], ◌∷◌, ℕ, ◌<◌, length, get_or, eqb}
 
 -- two places that hold equal keys

@@ -21,8 +21,8 @@ module _ (n i j : ℕ) (i-in : i < n) (j-in : j < n) (apart : i ≢ j) where
   has_first =
       rw (get_or-set_other (set (replicate n false) i true) j i true false apart, get_or-set_same (replicate n false) i true false (rw length-replicate i-in)) tt
 
-  has-second : Has (pair n i j) j
-  has-second = rw (get_or-set_same (set (replicate n false) i true) j true false (simp (length-set, length-replicate) j-in)) tt
+  has_second : Has (pair n i j) j
+  has_second = rw (get_or-set_same (set (replicate n false) i true) j true false (simp (length-set, length-replicate) j-in)) tt
 
   one_of : (k : ℕ) → Has (pair n i j) k → (k ≡ i) ⊎ (k ≡ j)
   one_of k h = by (ℕ_discrete k j) (ℕ_discrete k i)
@@ -34,16 +34,16 @@ module _ (n i j : ℕ) (i-in : i < n) (j-in : j < n) (apart : i ≢ j) where
           let not_set = get_or-set_other (set (replicate n false) i true) j k true false k≢j ∙ get_or-set_other (replicate n false) i k true false k≢i in
           absurd (nobody n k (subst T not_set h))
 
-pub same-slots-stuck : (keys : List Slots) (i j : ℕ) → i < length keys → j < length keys → i ≢ j → key keys i ≡ key keys j
+pub same_slots_stuck : (keys : List Slots) (i j : ℕ) → i < length keys → j < length keys → i ≢ j → key keys i ≡ key keys j
     → Stuck keys (pair (length keys) i j)
-same-slots-stuck keys i j i-in j-in apart e =
+same_slots_stuck keys i j i-in j-in apart e =
     record {
       fits = simp (length-set, length-replicate);
       nonempty = (i, has_first n i j i-in j-in apart);
-      none-alone = λ k s al.
+      none_alone = λ k s al.
           let same = alike k (one_of n i j i-in j-in apart k al.has) in
           apart (al.only i (has_first n i j i-in j-in apart) (moves s same.0 al.touch)
-          ∙ sym (al.only j (has-second n i j i-in j-in apart) (moves s same.1 al.touch)));
+          ∙ sym (al.only j (has_second n i j i-in j-in apart) (moves s same.1 al.touch)));
     }
   where
     n : ℕ
@@ -58,12 +58,12 @@ same-slots-stuck keys i j i-in j-in apart e =
     moves s q h = subst (λ (x : Slots). T (touches x s)) q h
 
 -- whatever slots an attempt gives to each key
-pub equal-keys-stuck : (slots : ℕ → Slots) (keys : List ℕ) (i j : ℕ) → i < j → j < length keys → get_or keys i 0 ≡ get_or keys j 0 → SomeStuck (map slots keys)
-equal-keys-stuck slots keys i j lt j-in e =
+pub equal_keys_stuck : (slots : ℕ → Slots) (keys : List ℕ) (i j : ℕ) → i < j → j < length keys → get_or keys i 0 ≡ get_or keys j 0 → SomeStuck (map slots keys)
+equal_keys_stuck slots keys i j lt j-in e =
     let i-in : i < length keys = omega arith in
     let number : length (map slots keys) ≡ length keys = length-map keys slots in
     record {
       which = pair (length (map slots keys)) i j;
-      stuck = same-slots-stuck (map slots keys) i j (rw number i-in) (rw number j-in) (λ q. omega arith)
+      stuck = same_slots_stuck (map slots keys) i j (rw number i-in) (rw number j-in) (λ q. omega arith)
           (key-map slots keys i i-in ∙ ap slots e ∙ sym (key-map slots keys j j-in));
     }

@@ -10,15 +10,15 @@ pub record Entry : Type 0 where
   pub position : ℕ
   pub fingerprint : ℕ
 
-abbrev pub ownSlot : Entry → ℕ
-ownSlot e = slot_at e.slots e.position
+abbrev pub own_slot : Entry → ℕ
+own_slot e = slot_at e.slots e.position
 
 -- the slot where a key was removed becomes its fingerprint xor the other two slots' values
 unfoldable pub store : Entry → List ℕ → List ℕ
 store e values =
     let one = get_or values (slot_at e.slots (next e.position)) 0 in
     let two = get_or values (slot_at e.slots (next (next e.position))) 0 in
-    set values (ownSlot e) (bit_xor e.fingerprint (bit_xor one two))
+    set values (own_slot e) (bit_xor e.fingerprint (bit_xor one two))
 
 -- the entries stand in the order of removal; the last removed is stored first
 unfoldable pub fill : List Entry → List ℕ → List ℕ
@@ -26,9 +26,9 @@ fill [] values = values
 fill (e ∷ later) values = store e (fill later values)
 
 -- fingerprint xor the three slots' values
-unfoldable pub queryXor : Slots → ℕ → List ℕ → ℕ
-queryXor t f values = bit_xor (bit_xor (bit_xor f (get_or values t.s0 0)) (get_or values t.s1 0)) (get_or values t.s2 0)
+unfoldable pub query_xor : Slots → ℕ → List ℕ → ℕ
+query_xor t f values = bit_xor (bit_xor (bit_xor f (get_or values t.s0 0)) (get_or values t.s1 0)) (get_or values t.s2 0)
 
 -- the query says yes
 abbrev pub AnswersYes : Slots → ℕ → List ℕ → Type 0
-AnswersYes t f values = queryXor t f values ≡ 0
+AnswersYes t f values = query_xor t f values ≡ 0

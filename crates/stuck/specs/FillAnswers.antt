@@ -5,13 +5,13 @@ use Rattle.std.proofs.Common.{sym, ◌∙◌, subst, arith, length-set, get_or-s
 use Rattle.std.proofs.Math.Decide.{ℕ_discrete}
 use Rattle.std.specs.Int.Bits.{bit_xor, xor_self}
 use Rattle.std.proofs.lemmas.Nat.{xor_comm, xor_lt}
-use Rattle.words.specs.Xor.{xor_assoc, xor-left-comm, xor-cancel-right}
-use Rattle.stuck.specs.Stuck.{Slots, slot_at, next, key, touches, KeySet, Has, everyKey, without, Pick, pick, Run, done, remove}
-use Rattle.stuck.specs.Sets.{without-self, without_other, without-within, has-every, every-lt}
-use Rattle.stuck.specs.Survives.{all-removed}
+use Rattle.words.specs.Xor.{xor_assoc, xor_left_comm, xor_cancel_right}
+use Rattle.stuck.specs.Stuck.{Slots, slot_at, next, key, touches, KeySet, Has, every_key, without, Pick, pick, Run, done, remove}
+use Rattle.stuck.specs.Sets.{without_self, without_other, without_within, has-every, every-lt}
+use Rattle.stuck.specs.Survives.{all_removed}
 use Rattle.stuck.specs.Touching.{touches-own}
-use Rattle.stuck.specs.Ring.{Apart, slot-below, ApartFrom, apart_from}
-use Rattle.stuck.specs.Fill.{Entry, ownSlot, store, fill, queryXor, AnswersYes}
+use Rattle.stuck.specs.Ring.{Apart, slot_below, ApartFrom, apart_from}
+use Rattle.stuck.specs.Fill.{Entry, own_slot, store, fill, query_xor, AnswersYes}
 
 -- ---- one store
 
@@ -19,7 +19,7 @@ pub store_length : (e : Entry) (values : List ℕ) → length (store e values) �
 unfolding store
 store_length e values = length-set values _ _
 
-pub store_other : (e : Entry) (values : List ℕ) (s : ℕ) → s ≢ ownSlot e → get_or (store e values) s 0 ≡ get_or values s 0
+pub store_other : (e : Entry) (values : List ℕ) (s : ℕ) → s ≢ own_slot e → get_or (store e values) s 0 ≡ get_or values s 0
 unfolding store
 store_other e values s ne = get_or-set_other values _ s _ 0 ne
 
@@ -27,8 +27,8 @@ store_other e values s ne = get_or-set_other values _ s _ 0 ne
 module _ (◌⊕◌ : ℕ → ℕ → ℕ) (ac : (a b c : ℕ) → (a ⊕ b) ⊕ c ≡ a ⊕ (b ⊕ c)) (lc : (a b c : ℕ) → a ⊕ (b ⊕ c) ≡ b ⊕ (a ⊕ c))
     (co : (a b : ℕ) → a ⊕ b ≡ b ⊕ a) where
   infixl 50 ◌⊕◌
-  turn-none : (f x y z : ℕ) → ((f ⊕ x) ⊕ y) ⊕ z ≡ f ⊕ (x ⊕ (y ⊕ z))
-  turn-none f x y z = simp ac
+  turn_none : (f x y z : ℕ) → ((f ⊕ x) ⊕ y) ⊕ z ≡ f ⊕ (x ⊕ (y ⊕ z))
+  turn_none f x y z = simp ac
 
   turn_one : (f x y z : ℕ) → ((f ⊕ x) ⊕ y) ⊕ z ≡ f ⊕ (y ⊕ (z ⊕ x))
   turn_one f x y z = simp (ac, co, lc)
@@ -37,20 +37,20 @@ module _ (◌⊕◌ : ℕ → ℕ → ℕ) (ac : (a b c : ℕ) → (a ⊕ b) ⊕
   turn_two f x y z = simp (ac, co, lc)
 
 -- the three slots may be taken from any position on
-query-from : (t : Slots) (f p : ℕ) (values : List ℕ) → p < 3
-    → queryXor t f values ≡ bit_xor f (bit_xor (get_or values (slot_at t p) 0) (bit_xor (get_or values (slot_at t (next p)) 0) (get_or values (slot_at t (next (next p))) 0)))
-unfolding queryXor
-query-from t f zero values lt = turn-none bit_xor xor_assoc xor-left-comm xor_comm f _ _ _
-query-from t f (suc zero) values lt = turn_one bit_xor xor_assoc xor-left-comm xor_comm f _ _ _
-query-from t f (suc (suc zero)) values lt = turn_two bit_xor xor_assoc xor-left-comm xor_comm f _ _ _
-query-from t f (suc (suc (suc p))) values lt = absurd (omega arith)
+query_from : (t : Slots) (f p : ℕ) (values : List ℕ) → p < 3
+    → query_xor t f values ≡ bit_xor f (bit_xor (get_or values (slot_at t p) 0) (bit_xor (get_or values (slot_at t (next p)) 0) (get_or values (slot_at t (next (next p))) 0)))
+unfolding query_xor
+query_from t f zero values lt = turn_none bit_xor xor_assoc xor_left_comm xor_comm f _ _ _
+query_from t f (suc zero) values lt = turn_one bit_xor xor_assoc xor_left_comm xor_comm f _ _ _
+query_from t f (suc (suc zero)) values lt = turn_two bit_xor xor_assoc xor_left_comm xor_comm f _ _ _
+query_from t f (suc (suc (suc p))) values lt = absurd (omega arith)
 
 -- one store makes its key answer yes
-pub store-yes : (e : Entry) (values : List ℕ) → e.position < 3 → Apart (length values) e.slots → AnswersYes e.slots e.fingerprint (store e values)
+pub store_yes : (e : Entry) (values : List ℕ) → e.position < 3 → Apart (length values) e.slots → AnswersYes e.slots e.fingerprint (store e values)
 unfolding store
-store-yes e values lt a =
-    query-from t f p (store e values) lt
-    ∙ rw (own-now, kept (next p) d.one≢here, kept (next (next p)) d.two≢here, xor-cancel-right) (xor_self f)
+store_yes e values lt a =
+    query_from t f p (store e values) lt
+    ∙ rw (own_now, kept (next p) d.one≢here, kept (next (next p)) d.two≢here, xor_cancel_right) (xor_self f)
   where
     t : Slots
     t = e.slots
@@ -64,8 +64,8 @@ store-yes e values lt a =
     d : ApartFrom t p
     d = apart_from (length values) t a p lt
 
-    own-now : get_or (store e values) (slot_at t p) 0 ≡ bit_xor f (bit_xor (get_or values (slot_at t (next p)) 0) (get_or values (slot_at t (next (next p))) 0))
-    own-now = get_or-set_same values (slot_at t p) _ 0 (slot-below (length values) t a p)
+    own_now : get_or (store e values) (slot_at t p) 0 ≡ bit_xor f (bit_xor (get_or values (slot_at t (next p)) 0) (get_or values (slot_at t (next (next p))) 0))
+    own_now = get_or-set_same values (slot_at t p) _ 0 (slot_below (length values) t a p)
 
     kept : (q : ℕ) → slot_at t q ≢ slot_at t p → get_or (store e values) (slot_at t q) 0 ≡ get_or values (slot_at t q) 0
     kept q ne = store_other e values (slot_at t q) ne
@@ -80,13 +80,13 @@ fill-length (e ∷ r) values = store_length e (fill r values) ∙ fill-length r 
 -- no entry is stored at slot s
 abbrev pub Unused : ℕ → List Entry → Type 0
 Unused s [] = Unit {0}
-Unused s (e ∷ r) = (s ≢ ownSlot e) × Unused s r
+Unused s (e ∷ r) = (s ≢ own_slot e) × Unused s r
 
 -- slots never used keep their value
-pub fill-unused : (r : List Entry) (values : List ℕ) (s : ℕ) → Unused s r → get_or (fill r values) s 0 ≡ get_or values s 0
+pub fill_unused : (r : List Entry) (values : List ℕ) (s : ℕ) → Unused s r → get_or (fill r values) s 0 ≡ get_or values s 0
 unfolding fill
-fill-unused [] values s u = refl
-fill-unused (e ∷ r) values s u = store_other e (fill r values) s u.0 ∙ fill-unused r values s u.1
+fill_unused [] values s u = refl
+fill_unused (e ∷ r) values s u = store_other e (fill r values) s u.0 ∙ fill_unused r values s u.1
 
 set_below : (m : ℕ) (l : List ℕ) (i v s : ℕ) → ((x : ℕ) → get_or l x 0 < m) → v < m → get_or (set l i v) s 0 < m
 set_below m [] i v s h hv = h s
@@ -101,13 +101,13 @@ Fits width [] = Unit {0}
 Fits width (e ∷ r) = (e.fingerprint < 2 ^ width) × Fits width r
 
 -- then so is every value
-pub fill-fits : (width : ℕ) (r : List Entry) (values : List ℕ) → ((s : ℕ) → get_or values s 0 < 2 ^ width) → Fits width r
+pub fill_fits : (width : ℕ) (r : List Entry) (values : List ℕ) → ((s : ℕ) → get_or values s 0 < 2 ^ width) → Fits width r
     → (s : ℕ) → get_or (fill r values) s 0 < 2 ^ width
 unfolding fill store
-fill-fits width [] values small fits s = small s
-fill-fits width (e ∷ r) values small fits s =
-    let rest : (x : ℕ) → get_or (fill r values) x 0 < 2 ^ width = fill-fits width r values small fits.1 in
-    set_below (2 ^ width) (fill r values) (ownSlot e) _ s rest (xor_lt width _ _ fits.0 (xor_lt width _ _ (rest _) (rest _)))
+fill_fits width [] values small fits s = small s
+fill_fits width (e ∷ r) values small fits s =
+    let rest : (x : ℕ) → get_or (fill r values) x 0 < 2 ^ width = fill_fits width r values small fits.1 in
+    set_below (2 ^ width) (fill r values) (own_slot e) _ s rest (xor_lt width _ _ fits.0 (xor_lt width _ _ (rest _) (rest _)))
 
 -- ---- every entry's key answers yes, if its own slot is touched by no later entry
 
@@ -117,29 +117,29 @@ Untouched s (e ∷ r) = (¬ T (touches e.slots s)) × Untouched s r
 
 abbrev InOrder : ℕ → List Entry → Type 0
 InOrder n [] = Unit {0}
-InOrder n (e ∷ r) = (e.position < 3) × Apart n e.slots × Untouched (ownSlot e) r × InOrder n r
+InOrder n (e ∷ r) = (e.position < 3) × Apart n e.slots × Untouched (own_slot e) r × InOrder n r
 
 abbrev AllYes : List Entry → List ℕ → Type 0
 AllYes [] values = Unit {0}
 AllYes (e ∷ r) values = AnswersYes e.slots e.fingerprint values × AllYes r values
 
-query-kept : (e : Entry) (t : Slots) (f : ℕ) (values : List ℕ) → ¬ T (touches t (ownSlot e)) → queryXor t f (store e values) ≡ queryXor t f values
-unfolding queryXor
-query-kept e t f values off = rw (store_other e values t.s0 (away 0), store_other e values t.s1 (away 1), store_other e values t.s2 (away 2))
+query_kept : (e : Entry) (t : Slots) (f : ℕ) (values : List ℕ) → ¬ T (touches t (own_slot e)) → query_xor t f (store e values) ≡ query_xor t f values
+unfolding query_xor
+query_kept e t f values off = rw (store_other e values t.s0 (away 0), store_other e values t.s1 (away 1), store_other e values t.s2 (away 2))
   where
-    away : (p : ℕ) → slot_at t p ≢ ownSlot e
+    away : (p : ℕ) → slot_at t p ≢ own_slot e
     away p q = off (subst (λ (x : ℕ). T (touches t x)) q (touches-own t p))
 
-yes-kept : (e : Entry) (r : List Entry) (values : List ℕ) → Untouched (ownSlot e) r → AllYes r values → AllYes r (store e values)
-yes-kept e [] values off answers = tt
-yes-kept e (x ∷ r) values off answers = (query-kept e x.slots x.fingerprint values off.0 ∙ answers.0, yes-kept e r values off.1 answers.1)
+yes_kept : (e : Entry) (r : List Entry) (values : List ℕ) → Untouched (own_slot e) r → AllYes r values → AllYes r (store e values)
+yes_kept e [] values off answers = tt
+yes_kept e (x ∷ r) values off answers = (query_kept e x.slots x.fingerprint values off.0 ∙ answers.0, yes_kept e r values off.1 answers.1)
 
-fill-yes : (r : List Entry) (values : List ℕ) → InOrder (length values) r → AllYes r (fill r values)
+fill_yes : (r : List Entry) (values : List ℕ) → InOrder (length values) r → AllYes r (fill r values)
 unfolding fill
-fill-yes [] values o = tt
-fill-yes (e ∷ r) values o = (
-  store-yes e (fill r values) o.0 (rw (fill-length r values) o.1),
-  yes-kept e r (fill r values) o.2 (fill-yes r values o.3),
+fill_yes [] values o = tt
+fill_yes (e ∷ r) values o = (
+  store_yes e (fill r values) o.0 (rw (fill-length r values) o.1),
+  yes_kept e r (fill r values) o.2 (fill_yes r values o.3),
 )
 
 -- ---- a run removes keys in such an order
@@ -154,40 +154,40 @@ module _ (keys : List Slots) (fingerprint : ℕ → ℕ) where
   entries (k ∷ r) = entry k ∷ entries r
 
 module _ (keys : List Slots) (fingerprint : ℕ → ℕ) where
-  run-untouched : {m l : KeySet} {r : List Pick} (s : ℕ) → Run keys m r l → ((j : ℕ) → Has m j → ¬ T (touches (key keys j) s))
+  run_untouched : {m l : KeySet} {r : List Pick} (s : ℕ) → Run keys m r l → ((j : ℕ) → Has m j → ¬ T (touches (key keys j) s))
       → Untouched s (entries keys fingerprint r)
-  run-untouched s done off = tt
-  run-untouched s (remove {m = m} i p x rest) off = (off i x.alone.has, run-untouched s rest (λ j h. off j (without-within m i j h)))
+  run_untouched s done off = tt
+  run_untouched s (remove {m = m} i p x rest) off = (off i x.alone.has, run_untouched s rest (λ j h. off j (without_within m i j h)))
 
-  run-in-order : {m l : KeySet} {r : List Pick} (n : ℕ) → ((i : ℕ) → Has m i → Apart n (key keys i)) → Run keys m r l
+  run_in_order : {m l : KeySet} {r : List Pick} (n : ℕ) → ((i : ℕ) → Has m i → Apart n (key keys i)) → Run keys m r l
       → InOrder n (entries keys fingerprint r)
-  run-in-order n apart done = tt
-  run-in-order n apart (remove {m = m} i p x rest) = (
+  run_in_order n apart done = tt
+  run_in_order n apart (remove {m = m} i p x rest) = (
     x.small,
     apart i x.alone.has,
-    run-untouched (slot_at (key keys i) p) rest
-        (λ j h t. without-self m i (subst (λ (k : ℕ). Has (without m i) k) (x.alone.only j (without-within m i j h) t) h)),
-    run-in-order n (λ j h. apart j (without-within m i j h)) rest,
+    run_untouched (slot_at (key keys i) p) rest
+        (λ j h t. without_self m i (subst (λ (k : ℕ). Has (without m i) k) (x.alone.only j (without_within m i j h) t) h)),
+    run_in_order n (λ j h. apart j (without_within m i j h)) rest,
   )
 
-  run-yes : {m l : KeySet} {r : List Pick} (values : List ℕ) → Run keys m r l → AllYes (entries keys fingerprint r) values
+  run_yes : {m l : KeySet} {r : List Pick} (values : List ℕ) → Run keys m r l → AllYes (entries keys fingerprint r) values
       → (i : ℕ) → Has m i → ¬ Has l i → AnswersYes (key keys i) (fingerprint i) values
-  run-yes values done answers i h gone = absurd (gone h)
-  run-yes values (remove {m = m} k p x rest) answers i h gone = by (ℕ_discrete i k) (λ h'. run-yes values rest answers.1 i h' gone)
+  run_yes values done answers i h gone = absurd (gone h)
+  run_yes values (remove {m = m} k p x rest) answers i h gone = by (ℕ_discrete i k) (λ h'. run_yes values rest answers.1 i h' gone)
     where
       by : Dec (i ≡ k) → (Has (without m k) i → AnswersYes (key keys i) (fingerprint i) values) → AnswersYes (key keys i) (fingerprint i) values
       by (yes e) later = subst (λ (j : ℕ). AnswersYes (key keys j) (fingerprint j) values) (sym e) answers.0
       by (no ne) later = later (without_other m k i ne h)
 
   -- every key that a run removed answers yes
-  pub removed-yes : {m l : KeySet} {r : List Pick} (values : List ℕ) → ((i : ℕ) → Has m i → Apart (length values) (key keys i)) → Run keys m r l
+  pub removed_yes : {m l : KeySet} {r : List Pick} (values : List ℕ) → ((i : ℕ) → Has m i → Apart (length values) (key keys i)) → Run keys m r l
       → (i : ℕ) → Has m i → ¬ Has l i → AnswersYes (key keys i) (fingerprint i) (fill (entries keys fingerprint r) values)
-  removed-yes {r = r} values apart run i h gone =
-      run-yes (fill (entries keys fingerprint r) values) run (fill-yes (entries keys fingerprint r) values (run-in-order (length values) apart run)) i h gone
+  removed_yes {r = r} values apart run i h gone =
+      run_yes (fill (entries keys fingerprint r) values) run (fill_yes (entries keys fingerprint r) values (run_in_order (length values) apart run)) i h gone
 
   -- a run that removed every key: all answer yes
-  pub every-key-yes : {l : KeySet} {r : List Pick} (values : List ℕ) → ((i : ℕ) → i < length keys → Apart (length values) (key keys i))
-      → Run keys (everyKey keys) r l → length r ≡ length keys
+  pub every_key_yes : {l : KeySet} {r : List Pick} (values : List ℕ) → ((i : ℕ) → i < length keys → Apart (length values) (key keys i))
+      → Run keys (every_key keys) r l → length r ≡ length keys
       → (i : ℕ) → i < length keys → AnswersYes (key keys i) (fingerprint i) (fill (entries keys fingerprint r) values)
-  every-key-yes values apart run all i lt =
-      removed-yes values (λ j h. apart j (every-lt keys j h)) run i (has-every keys i lt) ((all-removed run).1 all i)
+  every_key_yes values apart run all i lt =
+      removed_yes values (λ j h. apart j (every-lt keys j h)) run i (has-every keys i lt) ((all_removed run).1 all i)

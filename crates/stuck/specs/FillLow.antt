@@ -6,24 +6,24 @@ use Rattle.std.proofs.Common.{◌∙◌}
 use mathlib.Core.List.{List, [], ◌∷◌, map}
 use Rattle.std.specs.Int.Bits.{xor_mod}
 use Rattle.words.specs.Low.{low}
-use Rattle.words.specs.LowLaws.{low-getD, low-set}
+use Rattle.words.specs.LowLaws.{low_get_d, low-set}
 use Rattle.stuck.specs.Stuck.{Slots}
-use Rattle.stuck.specs.Fill.{Entry, store, fill, queryXor}
+use Rattle.stuck.specs.Fill.{Entry, store, fill, query_xor}
 
 module _ (w : ℕ) where
   -- a removed key with the w low bits of its fingerprint
-  abbrev pub lowEntry : Entry → Entry
-  lowEntry e = record { slots = e.slots; position = e.position; fingerprint = e.fingerprint % 2 ^ w }
+  abbrev pub low_entry : Entry → Entry
+  low_entry e = record { slots = e.slots; position = e.position; fingerprint = e.fingerprint % 2 ^ w }
 
-  pub store_low : (e : Entry) (values : List ℕ) → low w (store e values) ≡ store (lowEntry e) (low w values)
+  pub store_low : (e : Entry) (values : List ℕ) → low w (store e values) ≡ store (low_entry e) (low w values)
   unfolding store
-  store_low e values = simp (low-set, xor_mod, low-getD)
+  store_low e values = simp (low-set, xor_mod, low_get_d)
 
-  pub fill-low : (r : List Entry) (values : List ℕ) → low w (fill r values) ≡ fill (map lowEntry r) (low w values)
+  pub fill-low : (r : List Entry) (values : List ℕ) → low w (fill r values) ≡ fill (map low_entry r) (low w values)
   unfolding fill
   fill-low [] values = refl
-  fill-low (e ∷ later) values = store_low e (fill later values) ∙ ap (store (lowEntry e)) (fill-low later values)
+  fill-low (e ∷ later) values = store_low e (fill later values) ∙ ap (store (low_entry e)) (fill-low later values)
 
-  pub query-low : (t : Slots) (f : ℕ) (values : List ℕ) → queryXor t (f % 2 ^ w) (low w values) ≡ queryXor t f values % 2 ^ w
-  unfolding queryXor
-  query-low t f values = simp (xor_mod, low-getD)
+  pub query_low : (t : Slots) (f : ℕ) (values : List ℕ) → query_xor t (f % 2 ^ w) (low w values) ≡ query_xor t f values % 2 ^ w
+  unfolding query_xor
+  query_low t f values = simp (xor_mod, low_get_d)

@@ -7,11 +7,11 @@ use Prim.Native.Nat.{ℕ, zero, suc, ◌+◌, ◌*◌, ◌/◌, ◌%◌, ◌≤�
 use Rattle.std.proofs.Math.Decide.{ℕ_discrete}
 use Rattle.std.proofs.Math.ListN.{length}
 use Rattle.std.proofs.Math.Facts.{yes_eqb}
-use Rattle.stuck.specs.Stuck.{Slots, KeySet, slot_at, key, size, everyKey, without, Alone, Removable, done, remove, Complete}
-use Rattle.stuck.specs.Sets.{has-lt, size-nobody, size-without, size-every, length-every}
-use Rattle.stuck.specs.Touching.{touches-own, touched-at}
-use Rattle.stuck.specs.TouchCount.{alone-of-count, count-of-alone}
-use Rattle.stuck.specs.Plain.{canGo, or_else, firstBelow, firstToGo, Peeled, after, plainly, plain}
+use Rattle.stuck.specs.Stuck.{Slots, KeySet, slot_at, key, size, every_key, without, Alone, Removable, done, remove, Complete}
+use Rattle.stuck.specs.Sets.{has-lt, size_nobody, size-without, size-every, length-every}
+use Rattle.stuck.specs.Touching.{touches-own, touched_at}
+use Rattle.stuck.specs.TouchCount.{alone_of_count, count_of_alone}
+use Rattle.stuck.specs.Plain.{can_go, or_else, first_below, first_to_go, Peeled, after, plainly, plain}
 
 -- ---- the first number that passes
 
@@ -20,10 +20,10 @@ abbrev Answers : ℕ → (ℕ → Bool) → Option ℕ → Type 0
 Answers n test none = (k : ℕ) → k < n → ¬ T (test k)
 Answers n test (some k) = T (test k)
 
-first_below : (n : ℕ) (test : ℕ → Bool) → Answers n test (firstBelow n test)
-unfolding firstBelow or_else
-first_below zero test = λ k lt. absurd (omega arith)
-first_below (suc n) test = by (firstBelow n test) (first_below n test) (test n) refl
+first_below_lem : (n : ℕ) (test : ℕ → Bool) → Answers n test (first_below n test)
+unfolding first_below or_else
+first_below_lem zero test = λ k lt. absurd (omega arith)
+first_below_lem (suc n) test = by (first_below n test) (first_below_lem n test) (test n) refl
   where
     by : (below : Option ℕ) → Answers n test below → (b : Bool) → test n ≡ b → Answers (suc n) test (or_else below (cond b (some n) none))
     by (some k) found b e = found
@@ -45,34 +45,34 @@ and_both true b ha hb = hb
 and_both false b ha hb = ha
 
 module _ (keys : List Slots) (m : KeySet) (fits : length m ≡ length keys) where
-  can-go : (i p : ℕ) → p < 3 → T (canGo keys m i p) → Removable keys m i p
-  unfolding canGo
-  can-go i p lt h =
+  can_go_lem : (i p : ℕ) → p < 3 → T (can_go keys m i p) → Removable keys m i p
+  unfolding can_go
+  can_go_lem i p lt h =
       let w = and_parts (get_or m i false) _ h in
-      record { small = lt; alone = alone-of-count keys m fits i (slot_at (key keys i) p) w.0 (touches-own (key keys i) p) (eqb→eq _ _ w.1) }
+      record { small = lt; alone = alone_of_count keys m fits i (slot_at (key keys i) p) w.0 (touches-own (key keys i) p) (eqb→eq _ _ w.1) }
 
-  goes : (i s : ℕ) → Alone keys m i s → (p : ℕ) → slot_at (key keys i) p ≡ s → T (canGo keys m i p)
-  unfolding canGo
+  goes : (i s : ℕ) → Alone keys m i s → (p : ℕ) → slot_at (key keys i) p ≡ s → T (can_go keys m i p)
+  unfolding can_go
   goes i s al p e =
       and_both (get_or m i false) _ al.has
-      (yes_eqb (count-of-alone keys m fits i (slot_at (key keys i) p) (subst (λ (x : ℕ). Alone keys m i x) (sym e) al)))
+      (yes_eqb (count_of_alone keys m fits i (slot_at (key keys i) p) (subst (λ (x : ℕ). Alone keys m i x) (sym e) al)))
 
   -- a key to remove, or none that can go
   abbrev Found : Option ℕ → Type 0
   Found none = (i s : ℕ) → ¬ Alone keys m i s
   Found (some k) = Removable keys m (k / 3) (k % 3)
 
-  first-to-go : Found (firstToGo keys m)
-  unfolding firstToGo
-  first-to-go = by (firstBelow (3 * length m) test) (first_below (3 * length m) test)
+  first_to_go_lem : Found (first_to_go keys m)
+  unfolding first_to_go
+  first_to_go_lem = by (first_below (3 * length m) test) (first_below_lem (3 * length m) test)
     where
       test : ℕ → Bool
-      test k = canGo keys m (k / 3) (k % 3)
+      test k = can_go keys m (k / 3) (k % 3)
 
       by : (answer : Option ℕ) → Answers (3 * length m) test answer → Found answer
-      by (some k) found = can-go (k / 3) (k % 3) (omega arith) found
+      by (some k) found = can_go_lem (k / 3) (k % 3) (omega arith) found
       by none found = λ i s al.
-          let at = touched-at (key keys i) s al.touch in
+          let at = touched_at (key keys i) s al.touch in
           let i-is : (at.0 + 3 * i) / 3 ≡ i = omega (arith, at.1) in
           let p-is : (at.0 + 3 * i) % 3 ≡ at.0 = omega (arith, at.1) in
           found (at.0 + 3 * i) (omega (arith, at.1, has-lt m i al.has))
@@ -80,11 +80,11 @@ module _ (keys : List Slots) (m : KeySet) (fits : length m ≡ length keys) wher
 
 -- ---- the plain run is complete
 
-pub plainly-complete : (keys : List Slots) (n : ℕ) (m : KeySet) → length m ≡ length keys → size m ≤ n
+pub plainly_complete : (keys : List Slots) (n : ℕ) (m : KeySet) → length m ≡ length keys → size m ≤ n
     → Complete keys m (plainly keys n m).picks (plainly keys n m).left
 unfolding plainly after
-plainly-complete keys zero m fits le = record { run = done; stops = λ i s al. (size-nobody m).1 (omega arith) i al.has }
-plainly-complete keys (suc n) m fits le = by (firstToGo keys m) (first-to-go keys m fits) (plainly-complete keys n)
+plainly_complete keys zero m fits le = record { run = done; stops = λ i s al. (size_nobody m).1 (omega arith) i al.has }
+plainly_complete keys (suc n) m fits le = by (first_to_go keys m) (first_to_go_lem keys m fits) (plainly_complete keys n)
   where
     again : KeySet → Peeled
     again k = plainly keys n k
@@ -97,6 +97,6 @@ plainly-complete keys (suc n) m fits le = by (firstToGo keys m) (first-to-go key
         let c = rest (without m (k / 3)) (length-set m (k / 3) false ∙ fits) (omega (arith, size-without m (k / 3) found.alone.has)) in
         record { run = remove (k / 3) (k % 3) found c.run; stops = c.stops }
 
-pub plain-complete : (keys : List Slots) → Complete keys (everyKey keys) (plain keys).picks (plain keys).left
+pub plain_complete : (keys : List Slots) → Complete keys (every_key keys) (plain keys).picks (plain keys).left
 unfolding plain
-plain-complete keys = plainly-complete keys (length keys) (everyKey keys) (length-every keys) (le_of_eq (size-every keys))
+plain_complete keys = plainly_complete keys (length keys) (every_key keys) (length-every keys) (le_of_eq (size-every keys))

@@ -12,28 +12,28 @@ pub record Apart (n : ℕ) (t : Slots) : Type 0 where
   pub in1 : t.s1 < n
   pub in2 : t.s2 < n
 
-pub slot-below : (n : ℕ) (t : Slots) → Apart n t → (p : ℕ) → slot_at t p < n
-slot-below n t a zero = a.in0
-slot-below n t a (suc zero) = a.in1
-slot-below n t a (suc (suc p)) = a.in2
+pub slot_below : (n : ℕ) (t : Slots) → Apart n t → (p : ℕ) → slot_at t p < n
+slot_below n t a zero = a.in0
+slot_below n t a (suc zero) = a.in1
+slot_below n t a (suc (suc p)) = a.in2
 
 -- every position is p, the next, or the one after that
 pub data AroundFrom (p : ℕ) : ℕ → Type 0 where
   here : AroundFrom p p
   one_on : AroundFrom p (next p)
-  two-on : AroundFrom p (next (next p))
+  two_on : AroundFrom p (next (next p))
 
 pub around : (p q : ℕ) → p < 3 → q < 3 → AroundFrom p q
 around zero zero hp hq = here
 around zero (suc zero) hp hq = one_on
-around zero (suc (suc zero)) hp hq = two-on
+around zero (suc (suc zero)) hp hq = two_on
 around zero (suc (suc (suc q))) hp hq = absurd (omega arith)
-around (suc zero) zero hp hq = two-on
+around (suc zero) zero hp hq = two_on
 around (suc zero) (suc zero) hp hq = here
 around (suc zero) (suc (suc zero)) hp hq = one_on
 around (suc zero) (suc (suc (suc q))) hp hq = absurd (omega arith)
 around (suc (suc zero)) zero hp hq = one_on
-around (suc (suc zero)) (suc zero) hp hq = two-on
+around (suc (suc zero)) (suc zero) hp hq = two_on
 around (suc (suc zero)) (suc (suc zero)) hp hq = here
 around (suc (suc zero)) (suc (suc (suc q))) hp hq = absurd (omega arith)
 around (suc (suc (suc p))) q hp hq = absurd (omega arith)

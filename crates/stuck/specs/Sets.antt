@@ -1,7 +1,7 @@
 -- Sets of keys: members lie in the list, what a set without a key has, sizes, and sets with the same keys are the same. Assumes nothing.
 use Rattle.std.specs.Prelude.{◌≡◌, refl, ◌≢◌, ◌↔◌, ◌⊎◌, Bool, true, false, List, [], ◌∷◌, ℕ, zero, suc, ◌≤◌, ◌<◌, length, get_or, T}
 use Rattle.std.proofs.Common.{ap, inl, inr, zero-le, suc-le-suc, le_of_suc-le-suc, not-suc-le-zero, suc-ne-zero, arith, get_or-set_other, ext_get_or}
-use Rattle.stuck.specs.Stuck.{Slots, KeySet, Has, Within, Nobody, size, everyKey, without}
+use Rattle.stuck.specs.Stuck.{Slots, KeySet, Has, Within, Nobody, size, every_key, without}
 
 pub has-lt : (m : KeySet) (i : ℕ) → Has m i → i < length m
 has-lt [] i h = absurd h
@@ -10,17 +10,17 @@ has-lt (b ∷ m) (suc i) h = suc-le-suc (has-lt m i h)
 
 -- ---- a set without a key
 
-pub without-within : (m : KeySet) (i : ℕ) → Within (without m i) m
-without-within [] i j h = absurd h
-without-within (b ∷ m) zero zero h = absurd h
-without-within (b ∷ m) zero (suc j) h = h
-without-within (b ∷ m) (suc i) zero h = h
-without-within (b ∷ m) (suc i) (suc j) h = without-within m i j h
+pub without_within : (m : KeySet) (i : ℕ) → Within (without m i) m
+without_within [] i j h = absurd h
+without_within (b ∷ m) zero zero h = absurd h
+without_within (b ∷ m) zero (suc j) h = h
+without_within (b ∷ m) (suc i) zero h = h
+without_within (b ∷ m) (suc i) (suc j) h = without_within m i j h
 
-pub without-self : (m : KeySet) (i : ℕ) → ¬ Has (without m i) i
-without-self [] i h = h
-without-self (b ∷ m) zero h = h
-without-self (b ∷ m) (suc i) h = without-self m i h
+pub without_self : (m : KeySet) (i : ℕ) → ¬ Has (without m i) i
+without_self [] i h = h
+without_self (b ∷ m) zero h = h
+without_self (b ∷ m) (suc i) h = without_self m i h
 
 pub without_other : (m : KeySet) (i j : ℕ) → j ≢ i → Has m j → Has (without m i) j
 without_other m i j ne h = rw (get_or-set_other m i j false false ne) h
@@ -40,22 +40,22 @@ somebody? [] = inr (λ i h. h)
 somebody? (true ∷ m) = inl (0, tt)
 somebody? (false ∷ m) = elim (somebody? m) [ inl w ↦ inl (suc w.0, w.1) | inr n ↦ inr (λ i. elim i [ zero ↦ λ h. h | suc j ↦ n j ]) ]
 
-pub size-nobody : (m : KeySet) → Nobody m ↔ (size m ≡ 0)
+pub size_nobody : (m : KeySet) → Nobody m ↔ (size m ≡ 0)
 unfolding size
-size-nobody [] = (λ n. refl, λ e i h. h)
-size-nobody (true ∷ m) = (λ n. absurd (n 0 tt), λ e. absurd (suc-ne-zero (size m) e))
-size-nobody (false ∷ m) =
-    (λ n. (size-nobody m).0 (λ i. n (suc i)), λ e i. elim i [ zero ↦ λ h. h | suc j ↦ (size-nobody m).1 e j ])
+size_nobody [] = (λ n. refl, λ e i h. h)
+size_nobody (true ∷ m) = (λ n. absurd (n 0 tt), λ e. absurd (suc-ne-zero (size m) e))
+size_nobody (false ∷ m) =
+    (λ n. (size_nobody m).0 (λ i. n (suc i)), λ e i. elim i [ zero ↦ λ h. h | suc j ↦ (size_nobody m).1 e j ])
 
-pub size-within : (a b : KeySet) → Within a b → size a ≤ size b
+pub size_within : (a b : KeySet) → Within a b → size a ≤ size b
 unfolding size
-size-within [] b w = omega arith
-size-within (true ∷ a) [] w = absurd (w 0 tt)
-size-within (false ∷ a) [] w = size-within a [] (λ i h. absurd (w (suc i) h))
-size-within (true ∷ a) (true ∷ b) w = omega (arith, size-within a b (λ i. w (suc i)))
-size-within (true ∷ a) (false ∷ b) w = absurd (w 0 tt)
-size-within (false ∷ a) (true ∷ b) w = omega (arith, size-within a b (λ i. w (suc i)))
-size-within (false ∷ a) (false ∷ b) w = size-within a b (λ i. w (suc i))
+size_within [] b w = omega arith
+size_within (true ∷ a) [] w = absurd (w 0 tt)
+size_within (false ∷ a) [] w = size_within a [] (λ i h. absurd (w (suc i) h))
+size_within (true ∷ a) (true ∷ b) w = omega (arith, size_within a b (λ i. w (suc i)))
+size_within (true ∷ a) (false ∷ b) w = absurd (w 0 tt)
+size_within (false ∷ a) (true ∷ b) w = omega (arith, size_within a b (λ i. w (suc i)))
+size_within (false ∷ a) (false ∷ b) w = size_within a b (λ i. w (suc i))
 
 -- ---- the same keys, the same set
 
@@ -70,24 +70,24 @@ same_set a b l f g = ext_get_or false a b l (λ i h. both (get_or a i false) (ge
 
 -- ---- the set of all the keys
 
-pub length-every : (keys : List Slots) → length (everyKey keys) ≡ length keys
-unfolding everyKey
+pub length-every : (keys : List Slots) → length (every_key keys) ≡ length keys
+unfolding every_key
 length-every [] = refl
 length-every (t ∷ keys) = ap suc (length-every keys)
 
-pub size-every : (keys : List Slots) → size (everyKey keys) ≡ length keys
-unfolding everyKey size
+pub size-every : (keys : List Slots) → size (every_key keys) ≡ length keys
+unfolding every_key size
 size-every [] = refl
 size-every (t ∷ keys) = ap suc (size-every keys)
 
-pub has-every : (keys : List Slots) (i : ℕ) → i < length keys → Has (everyKey keys) i
-unfolding everyKey
+pub has-every : (keys : List Slots) (i : ℕ) → i < length keys → Has (every_key keys) i
+unfolding every_key
 has-every [] i h = absurd (not-suc-le-zero h)
 has-every (t ∷ keys) zero h = tt
 has-every (t ∷ keys) (suc i) h = has-every keys i (le_of_suc-le-suc h)
 
-pub every-lt : (keys : List Slots) (i : ℕ) → Has (everyKey keys) i → i < length keys
-every-lt keys i h = omega (arith, has-lt (everyKey keys) i h, length-every keys)
+pub every-lt : (keys : List Slots) (i : ℕ) → Has (every_key keys) i → i < length keys
+every-lt keys i h = omega (arith, has-lt (every_key keys) i h, length-every keys)
 
-pub within-every : (keys : List Slots) (a : KeySet) → length a ≡ length keys → Within a (everyKey keys)
-within-every keys a l i h = has-every keys i (omega (arith, has-lt a i h))
+pub within_every : (keys : List Slots) (a : KeySet) → length a ≡ length keys → Within a (every_key keys)
+within_every keys a l i h = has-every keys i (omega (arith, has-lt a i h))

@@ -59,9 +59,9 @@ size (true ∷ m) = suc (size m)
 size (false ∷ m) = size m
 
 -- all the keys
-unfoldable pub everyKey : List Slots → KeySet
-everyKey [] = []
-everyKey (t ∷ keys) = true ∷ everyKey keys
+unfoldable pub every_key : List Slots → KeySet
+every_key [] = []
+every_key (t ∷ keys) = true ∷ every_key keys
 
 -- the set without key i
 abbrev pub without : KeySet → ℕ → KeySet
@@ -83,7 +83,7 @@ NoneAlone keys m = (i s : ℕ) → ¬ Alone keys m i s
 pub record Stuck (keys : List Slots) (m : KeySet) : Type 0 where
   pub fits : length m ≡ length keys
   pub nonempty : (i : ℕ) × Has m i
-  pub none-alone : NoneAlone keys m
+  pub none_alone : NoneAlone keys m
 
 -- some set of the keys is stuck
 pub record SomeStuck (keys : List Slots) : Type 0 where
@@ -119,9 +119,9 @@ pub record Complete (keys : List Slots) (m : KeySet) (r : List Pick) (l : KeySet
 pub record RemovesAll (keys : List Slots) : Type 0 where
   pub picks : List Pick
   pub left : KeySet
-  pub complete : Complete keys (everyKey keys) picks left
+  pub complete : Complete keys (every_key keys) picks left
   pub all : length picks ≡ length keys
 
 -- every complete run does
 abbrev pub EveryRunRemovesAll : List Slots → Type 0
-EveryRunRemovesAll keys = (r : List Pick) (l : KeySet) → Complete keys (everyKey keys) r l → length r ≡ length keys
+EveryRunRemovesAll keys = (r : List Pick) (l : KeySet) → Complete keys (every_key keys) r l → length r ≡ length keys

@@ -8,33 +8,33 @@ use mathlib.Core.List.{List, [], ◌∷◌}
 use Prim.Native.Nat.{ℕ, zero, suc, ◌+◌, ◌<◌}
 use Rattle.std.specs.Int.Bits.{bit_xor, xor_zero_l}
 use Rattle.std.proofs.Math.Dec.{T}
-use Rattle.words.specs.Xor.{xor-left-comm}
+use Rattle.words.specs.Xor.{xor_left_comm}
 
 abbrev pub bit : Bool → ℕ
 bit true = 1
 bit false = 0
 
-pub bit-yes : (b : Bool) → T b → bit b ≡ 1
-bit-yes true t = refl
-bit-yes false t = absurd t
+pub bit_yes : (b : Bool) → T b → bit b ≡ 1
+bit_yes true t = refl
+bit_yes false t = absurd t
 
-pub bit-no : (b : Bool) → ¬ T b → bit b ≡ 0
-bit-no true n = absurd (n tt)
-bit-no false n = refl
+pub bit_no : (b : Bool) → ¬ T b → bit b ≡ 0
+bit_no true n = absurd (n tt)
+bit_no false n = refl
 
 abbrev pub Op : Type 0
 Op = ℕ → ℕ → ℕ
 
 -- what an operation needs for its totals
 pub record Adds (op : Op) : Type 0 where
-  pub zero-l : (a : ℕ) → op 0 a ≡ a
+  pub zero_l : (a : ℕ) → op 0 a ≡ a
   pub left_comm : (a b c : ℕ) → op a (op b c) ≡ op b (op a c)
 
-pub plus-adds : Adds ◌+◌
-plus-adds = record { zero-l = λ a. omega arith; left_comm = λ a b c. omega arith }
+pub plus_adds : Adds ◌+◌
+plus_adds = record { zero_l = λ a. omega arith; left_comm = λ a b c. omega arith }
 
-pub xor-adds : Adds bit_xor
-xor-adds = record { zero-l = xor_zero_l; left_comm = xor-left-comm }
+pub xor_adds : Adds bit_xor
+xor_adds = record { zero_l = xor_zero_l; left_comm = xor_left_comm }
 
 -- ---- totals
 
@@ -64,7 +64,7 @@ module _ {X : Type 0} where
   unfolding total
   total-none op a f [] xs d h = refl
   total-none op a f (b ∷ m) [] d h = refl
-  total-none op a f (true ∷ m) (x ∷ xs) d h = rw (h 0 tt, total-none op a f m xs d (λ j. h (suc j))) (a.zero-l 0)
+  total-none op a f (true ∷ m) (x ∷ xs) d h = rw (h 0 tt, total-none op a f m xs d (λ j. h (suc j))) (a.zero_l 0)
   total-none op a f (false ∷ m) (x ∷ xs) d h = total-none op a f m xs d (λ j. h (suc j))
 
 -- ---- how many of the marked elements pass a test
@@ -76,20 +76,20 @@ module _ {X : Type 0} (test : X → Bool) where
   pub count-without : (m : List Bool) (xs : List X) (i : ℕ) (d : X) → T (get_or m i false) → i < length xs
       → count m xs ≡ bit (test (get_or xs i d)) + count (set m i false) xs
   unfolding count
-  count-without m xs i d h l = total-without ◌+◌ plus-adds (λ (x : X). bit (test x)) m xs i d h l
+  count-without m xs i d h l = total-without ◌+◌ plus_adds (λ (x : X). bit (test x)) m xs i d h l
 
   -- none passes
-  pub none-counted : (m : List Bool) (xs : List X) (d : X) → ((j : ℕ) → T (get_or m j false) → ¬ T (test (get_or xs j d))) → count m xs ≡ 0
+  pub none_counted : (m : List Bool) (xs : List X) (d : X) → ((j : ℕ) → T (get_or m j false) → ¬ T (test (get_or xs j d))) → count m xs ≡ 0
   unfolding count
-  none-counted m xs d h = total-none ◌+◌ plus-adds (λ (x : X). bit (test x)) m xs d (λ j k. bit-no (test (get_or xs j d)) (h j k))
+  none_counted m xs d h = total-none ◌+◌ plus_adds (λ (x : X). bit (test x)) m xs d (λ j k. bit_no (test (get_or xs j d)) (h j k))
 
   -- some passes
-  pub some-counted : (m : List Bool) (xs : List X) (d : X) → 0 < count m xs → (i : ℕ) × T (get_or m i false) × T (test (get_or xs i d))
+  pub some_counted : (m : List Bool) (xs : List X) (d : X) → 0 < count m xs → (i : ℕ) × T (get_or m i false) × T (test (get_or xs i d))
   unfolding count total
-  some-counted [] xs d h = absurd (not-suc-le-zero h)
-  some-counted (b ∷ m) [] d h = absurd (not-suc-le-zero h)
-  some-counted (false ∷ m) (x ∷ xs) d h = let w = some-counted m xs d h in (suc w.0, w.1, w.2)
-  some-counted (true ∷ m) (x ∷ xs) d h = by (test x) refl (λ k. some-counted m xs d k)
+  some_counted [] xs d h = absurd (not-suc-le-zero h)
+  some_counted (b ∷ m) [] d h = absurd (not-suc-le-zero h)
+  some_counted (false ∷ m) (x ∷ xs) d h = let w = some_counted m xs d h in (suc w.0, w.1, w.2)
+  some_counted (true ∷ m) (x ∷ xs) d h = by (test x) refl (λ k. some_counted m xs d k)
     where
       by : (b : Bool) → test x ≡ b
           → (0 < count m xs → (i : ℕ) × T (get_or m i false) × T (test (get_or xs i d))) → (i : ℕ) × T (get_or (true ∷ m) i false) × T (test (get_or (x ∷ xs) i d))
@@ -97,5 +97,5 @@ module _ {X : Type 0} (test : X → Bool) where
       by false e k = let g = rw e at h in let w = k (omega arith) in (suc w.0, w.1, w.2)
 
   -- one that passes is counted
-  pub counted-some : (m : List Bool) (xs : List X) (i : ℕ) (d : X) → T (get_or m i false) → i < length xs → T (test (get_or xs i d)) → 0 < count m xs
-  counted-some m xs i d h l t = omega (arith, count-without m xs i d h l, bit-yes (test (get_or xs i d)) t)
+  pub counted_some : (m : List Bool) (xs : List X) (i : ℕ) (d : X) → T (get_or m i false) → i < length xs → T (test (get_or xs i d)) → 0 < count m xs
+  counted_some m xs i d h l t = omega (arith, count-without m xs i d h l, bit_yes (test (get_or xs i d)) t)

@@ -17,8 +17,8 @@ touches-own t zero = one_of (eqb t.s0 t.s0) (eqb t.s1 t.s0) (eqb t.s2 t.s0) (inl
 touches-own t (suc zero) = one_of (eqb t.s0 t.s1) (eqb t.s1 t.s1) (eqb t.s2 t.s1) (inr (inl (eqb_refl t.s1)))
 touches-own t (suc (suc p)) = one_of (eqb t.s0 t.s2) (eqb t.s1 t.s2) (eqb t.s2 t.s2) (inr (inr (eqb_refl t.s2)))
 
-pub touched-at : (t : Slots) (s : ℕ) → T (touches t s) → (p : ℕ) × (p < 3) × (slot_at t p ≡ s)
-touched-at t s h = by (eqb t.s0 s) (eqb t.s1 s) (eqb t.s2 s) h (eqb→eq t.s0 s) (eqb→eq t.s1 s) (eqb→eq t.s2 s)
+pub touched_at : (t : Slots) (s : ℕ) → T (touches t s) → (p : ℕ) × (p < 3) × (slot_at t p ≡ s)
+touched_at t s h = by (eqb t.s0 s) (eqb t.s1 s) (eqb t.s2 s) h (eqb→eq t.s0 s) (eqb→eq t.s1 s) (eqb→eq t.s2 s)
   where
     by : (a b c : Bool) → T (a || b || c) → (T a → t.s0 ≡ s) → (T b → t.s1 ≡ s) → (T c → t.s2 ≡ s) → (p : ℕ) × (p < 3) × (slot_at t p ≡ s)
     by true b c h at0 at1 at2 = (0, lit< tt, at0 tt)

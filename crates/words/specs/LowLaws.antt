@@ -12,9 +12,9 @@ module _ (w : ℕ) where
   unfolding low
   low-length values = length-map values (λ x. x % 2 ^ w)
 
-  pub low-getD : (values : List ℕ) (i : ℕ) → slice_index (low w values) i ≡ slice_index values i % 2 ^ w
+  pub low_get_d : (values : List ℕ) (i : ℕ) → slice_index (low w values) i ≡ slice_index values i % 2 ^ w
   unfolding low
-  low-getD values i = ap (slice_index_or (low w values) i) (sym (zero-mod (2 ^ w))) ∙ get_or-map (λ (x : ℕ). x % 2 ^ w) values i 0
+  low_get_d values i = ap (slice_index_or (low w values) i) (sym (zero-mod (2 ^ w))) ∙ get_or-map (λ (x : ℕ). x % 2 ^ w) values i 0
 
   pub low-set : (values : List ℕ) (i x : ℕ) → low w (slice_set values i x) ≡ slice_set (low w values) i (x % 2 ^ w)
   unfolding low

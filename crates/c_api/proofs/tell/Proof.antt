@@ -2,11 +2,11 @@
 use mathlib.Core.Path.{◌≡◌, sym, ap, ◌∙◌}
 use Prim.Native.Nat.{ℕ, ◌+◌}
 use native.Mathlib.Omega.{arith}
-use Rattle.answers.specs.OneNumber.{up-to-twelve}
+use Rattle.answers.specs.OneNumber.{up_to_twelve}
 use Rattle.plan.specs.declared.BuildAnswer.{BuildAnswer}
 use Rattle.plan.specs.Paper.{paper}
 use Rattle.fuse.specs.Memory.{Memory}
-use Rattle.c_api.specs.BuildTold.{buildTold, toldBuilt}
+use Rattle.c_api.specs.BuildTold.{build_told, told_built}
 use Rattle.c_api.proofs.BuildsTold.{written}
 use borrow.Author.Rules.{rules}
 use Rattle.c_api.proofs.tell.Statement.{statement}
@@ -14,11 +14,11 @@ use Rattle.c_api.proofs.tell.Tie as tie
 
 -- from the enum's case to the answer
 told : (e : tie.Start) (answer : BuildAnswer) → e.args.answer ≡ answer → (m : Memory)
-    → toldBuilt (paper answer) m e.args.descriptor.now ≡ toldBuilt (paper e.args.answer) m e.args.descriptor.now
-told e answer is m = ap (λ (x : BuildAnswer). toldBuilt (paper x) m e.args.descriptor.now) (sym is)
+    → told_built (paper answer) m e.args.descriptor.now ≡ told_built (paper e.args.answer) m e.args.descriptor.now
+told e answer is m = ap (λ (x : BuildAnswer). told_built (paper x) m e.args.descriptor.now) (sym is)
 
 add-result : tie.Need-overflow-add-result
-add-result c = omega (arith, c.number.ensures, up-to-twelve c.before.before.answer2.given.0.0)
+add-result c = omega (arith, c.number.ensures, up_to_twelve c.before.before.answer2.given.0.0)
 
 returns : tie.Need-returns
 returns c m =
@@ -26,13 +26,13 @@ returns c m =
     let a : tie.After-answer = w.before.before.before in
     let e : tie.Start = a.before.before.before in
     let is = a.answer.given.1 in
-    ap (buildTold _ m) (written _ e.args.descriptor.now (e.requires.accepted _ (ap paper is)) e.requires.long w.write.ensures) ∙ told e _ is m
+    ap (build_told _ m) (written _ e.args.descriptor.now (e.requires.accepted _ (ap paper is)) e.requires.long w.write.ensures) ∙ told e _ is m
 
 returns-2 : tie.Need-returns-2
 returns-2 c m =
     let a : tie.After-answer2 = c.before.before in
     let e : tie.Start = a.before.before.before in
-    ap (λ (x : ℕ). buildTold (65536 + x) m e.args.descriptor.now) c.number.ensures ∙ told e _ a.answer2.given.1 m
+    ap (λ (x : ℕ). build_told (65536 + x) m e.args.descriptor.now) c.number.ensures ∙ told e _ a.answer2.given.1 m
 
 pub tell-spec : {M : Type 1} → statement M
 tell-spec =

@@ -1,4 +1,4 @@
--- `descriptor::check` meets its contract: at each return the tests that led there decide each check of `checkOf`. Assumes nothing.
+-- `descriptor::check` meets its contract: at each return the tests that led there decide each check of `check_of`. Assumes nothing.
 use mathlib.Core.Path.{◌≡◌, ◌∙◌, sym}
 use mathlib.Core.Bool.{Bool, true, false}
 use Prim.Native.Nat.{ℕ, ◌+◌, ◌*◌, ◌%◌}
@@ -7,42 +7,42 @@ use borrow.Author.Rules.{rules}
 use borrow.Author.Tests.{lt-ltb, le-ltb, eq-eqb, ne_eqb, not-false, not-true}
 use lib.Bits.{bit_and}
 use lib.Dec.{ltb}
-use Rattle.answers.specs.Checks.{refuseIf}
-use Rattle.descriptor.specs.Descriptor.{isLength, longest, badCount, checkOf}
-use Rattle.descriptor.specs.Lengths.{SegmentLength, length-of, at_least, at_most}
-use Rattle.descriptor.specs.Masks.{mask-mod}
+use Rattle.answers.specs.Checks.{refuse_if}
+use Rattle.descriptor.specs.Descriptor.{is_length, longest, bad_count, check_of}
+use Rattle.descriptor.specs.Lengths.{SegmentLength, length_of, at_least, at_most}
+use Rattle.descriptor.specs.Masks.{mask_mod}
 use Rattle.descriptor.proofs.check.Statement.{statement}
 use Rattle.descriptor.proofs.check.Tie as tie
 
 returns : tie.Need-returns
-unfolding checkOf
-returns c = simp (sym c.before.is-length.ensures ∙ not-true _ c.if1.true)
+unfolding check_of
+returns c = simp (sym c.before.is_length_lem.ensures ∙ not-true _ c.if1.true)
 
 -- check 8 passed
-good_length : (c : tie.Else1) → isLength c.before.before.args.d.segment_length ≡ true
-good_length c = sym c.before.is-length.ensures ∙ not-false _ c.if1.false
+good_length : (c : tie.Else1) → is_length c.before.before.args.d.segment_length ≡ true
+good_length c = sym c.before.is_length_lem.ensures ∙ not-false _ c.if1.false
 
 length_at : (c : tie.Else1) → SegmentLength c.before.before.args.d.segment_length
-length_at c = length-of (good_length c)
+length_at c = length_of (good_length c)
 
 sub-if2 : tie.Need-overflow-sub-if2
 sub-if2 c = omega (arith, at_least (length_at c))
 
 returns-2 : tie.Need-returns-2
-unfolding checkOf
+unfolding check_of
 returns-2 c = simp (good_length c.before, ne_eqb _ _ c.if2.true)
 
 returns-3 : tie.Need-returns-3
-unfolding checkOf badCount
+unfolding check_of bad_count
 returns-3 c = simp (good_length c.before.before, eq-eqb _ _ c.before.if2.false, eq-eqb _ _ c.if3.true)
 
 -- check 9 passed, so the mask gives the remainder
 remainder : (c : tie.Else2) → let d = c.before.before.before.args.d in
     bit_and d.segment_count_length d.segment_length_mask ≡ d.segment_count_length % d.segment_length
-remainder c = mask-mod _ (length_at c.before) c.if2.false
+remainder c = mask_mod _ (length_at c.before) c.if2.false
 
 returns-4 : tie.Need-returns-4
-unfolding checkOf badCount
+unfolding check_of bad_count
 returns-4 c =
     let masked = c.before.before in
     simp (
@@ -63,8 +63,8 @@ abbrev fingerprints : tie.Else4 → ℕ
 fingerprints c = let d = c.before.before.before.before.before.args.d in d.segment_count_length + 2 * d.segment_length
 
 last-check : (c : tie.Else4) (above : Bool) → ltb longest (fingerprints c) ≡ above
-    → refuseIf above 10 ≡ checkOf c.before.before.before.before.before.args.d
-unfolding checkOf badCount
+    → refuse_if above 10 ≡ check_of c.before.before.before.before.before.args.d
+unfolding check_of bad_count
 last-check c above e =
     let masked = c.before.before in
     simp (

@@ -6,8 +6,8 @@ use Rattle.answers.specs.Answers.{gives}
 use Rattle.answers.specs.Checks.{◌then◌}
 use Rattle.descriptor.specs.declared.CheckAnswer.{CheckAnswer}
 use Rattle.descriptor.specs.Descriptor.{read_of}
-use Rattle.descriptor.specs.Paper.{checkPaper}
-use Rattle.descriptor.proofs.Following.{read-follows}
+use Rattle.descriptor.specs.Paper.{check_paper}
+use Rattle.descriptor.proofs.Following.{read_follows}
 use Rattle.descriptor.proofs.read.Statement.{statement}
 use Rattle.descriptor.proofs.read.Tie as tie
 
@@ -16,10 +16,10 @@ returns c = simp (lt-ltb _ _ c.if1.true)
 
 -- the answer where `check` answered so
 answer : (c : tie.After-check) (checked : CheckAnswer) → checked ≡ c.check.result
-    → checkPaper checked then gives c.before.parse.result ≡ read_of c.before.before.before.before.args.bytes.now
+    → check_paper checked then gives c.before.parse.result ≡ read_of c.before.before.before.before.args.bytes.now
 answer c checked e =
-    read-follows c.before.before.before.before.args.bytes.now c.before.before.if1.false c.before.parse.ensures
-    (ap checkPaper e ∙ c.check.ensures)
+    read_follows c.before.before.before.before.args.bytes.now c.before.before.if1.false c.before.parse.ensures
+    (ap check_paper e ∙ c.check.ensures)
 
 returns-2 : tie.Need-returns-2
 returns-2 c = answer c.before.before _ (sym c.enum_told.given.1)

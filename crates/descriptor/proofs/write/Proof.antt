@@ -5,11 +5,11 @@ use borrow.Author.Rules.{rules}
 use borrow.Author.Tests.{lt-ltb}
 use lib.Seq.{sets}
 use Rattle.answers.specs.Answers.{gives, outcome}
-use Rattle.answers.specs.Checks.{done, unlessRefused}
+use Rattle.answers.specs.Checks.{done, unless_refused}
 use Rattle.descriptor.specs.declared.CheckAnswer.{CheckAnswer}
-use Rattle.descriptor.specs.Descriptor.{encode, writeOf}
-use Rattle.descriptor.specs.Paper.{checkPaper}
-use Rattle.descriptor.proofs.Following.{write-follows}
+use Rattle.descriptor.specs.Descriptor.{encode, write_of}
+use Rattle.descriptor.specs.Paper.{check_paper}
+use Rattle.descriptor.proofs.Following.{write_follows}
 use Rattle.descriptor.proofs.write.Statement.{statement}
 use Rattle.descriptor.proofs.write.Tie as tie
 
@@ -20,10 +20,10 @@ returns c = simp (lt-ltb _ _ c.if1.true)
 outcome-of : (c : tie.After-check) (checked : CheckAnswer) → checked ≡ c.check.result
     → let a = c.before.before.before.args in
     let room = a.room.now in
-    unlessRefused (checkPaper checked) room (outcome (gives done) (sets room 0 (encode a.d))) ≡ writeOf a.d room
+    unless_refused (check_paper checked) room (outcome (gives done) (sets room 0 (encode a.d))) ≡ write_of a.d room
 outcome-of c checked e =
     let a = c.before.before.before.args in
-    write-follows a.d a.room.now c.before.if1.false (ap checkPaper e ∙ c.check.ensures)
+    write_follows a.d a.room.now c.before.if1.false (ap check_paper e ∙ c.check.ensures)
 
 returns-2 : tie.Need-returns-2
 returns-2 c =

@@ -4,23 +4,23 @@ use native.Mathlib.Omega.{arith}
 use mir.Facts.{to_z-of_z}
 use lib.IntN.{pos, nat_abs, ◌+ℤ◌}
 use Rattle.flush.specs.Floor.{modulo}
-use Rattle.flush.specs.FlushKey.{hoursHeld}
-use Rattle.flush.specs.Hours.{good-small}
+use Rattle.flush.specs.FlushKey.{hours_held}
+use Rattle.flush.specs.Hours.{good_small}
 use Rattle.flush.specs.KeysApart.{held_below}
 use Rattle.flush.proofs.Sums.{sum_fits}
-use Rattle.flush.proofs.HeldHours.{below-zero, from_zero, held_fits}
+use Rattle.flush.proofs.HeldHours.{below_zero, from_zero, held_fits}
 use Rattle.flush.proofs.held.Statement.{statement}
 use Rattle.flush.proofs.held.Tie as tie
 
 add-result : tie.Need-overflow-add-result
 add-result c =
     let s : tie.Start = c.before in
-    rw (to_z-of_z s.ranges.hour) (sum_fits s.args.hour _ (omega (arith, good-small s.args.hour s.requires)))
+    rw (to_z-of_z s.ranges.hour) (sum_fits s.args.hour _ (omega (arith, good_small s.args.hour s.requires)))
 
-raised : (c : tie.Then1) → let hour = c.before.args.hour in hour +ℤ pos hoursHeld ≡ pos (modulo hour hoursHeld)
+raised : (c : tie.Then1) → let hour = c.before.args.hour in hour +ℤ pos hours_held ≡ pos (modulo hour hours_held)
 raised c =
     let s : tie.Start = c.before in
-    below-zero s.args.hour (good-small s.args.hour s.requires) (rw (to_z-of_z s.ranges.hour) at c.if1.true)
+    below_zero s.args.hour (good_small s.args.hour s.requires) (rw (to_z-of_z s.ranges.hour) at c.if1.true)
 
 returns : tie.Need-returns
 returns c = rw (to_z-of_z (add-result c), to_z-of_z c.before.ranges.hour) (ap nat_abs (raised c))
@@ -28,10 +28,10 @@ returns c = rw (to_z-of_z (add-result c), to_z-of_z c.before.ranges.hour) (ap na
 cast-result : tie.Need-overflow-cast-result
 cast-result c = rw (to_z-of_z (add-result c), to_z-of_z c.before.ranges.hour) (held_fits (raised c) (held_below c.before.args.hour))
 
-as-it-is : (c : tie.Else1) → let hour = c.before.args.hour in hour ≡ pos (modulo hour hoursHeld)
+as-it-is : (c : tie.Else1) → let hour = c.before.args.hour in hour ≡ pos (modulo hour hours_held)
 as-it-is c =
     let s : tie.Start = c.before in
-    from_zero s.args.hour (good-small s.args.hour s.requires) (rw (to_z-of_z s.ranges.hour) at c.if1.false)
+    from_zero s.args.hour (good_small s.args.hour s.requires) (rw (to_z-of_z s.ranges.hour) at c.if1.false)
 
 cast-result-2 : tie.Need-overflow-cast-result-2
 cast-result-2 c = rw (to_z-of_z c.before.ranges.hour) (held_fits (as-it-is c) (held_below c.before.args.hour))

@@ -7,8 +7,8 @@ use lib.Signed.{lt_z, rem_z}
 use mir.Facts.{to_z-of_z}
 use mir.Syntax.{w64}
 use mir.Val.{to_z, of_z}
-use Rattle.flush.specs.FlushKey.{secondsPerHour}
-use Rattle.flush.proofs.Rounded.{remainder, exact, rounded-up, quotient_fits, remainder-fits, less-fits}
+use Rattle.flush.specs.FlushKey.{seconds_per_hour}
+use Rattle.flush.proofs.Rounded.{remainder, exact, rounded_up, quotient_fits, remainder_fits, less_fits}
 use Rattle.flush.proofs.hour_of.Statement.{statement}
 use Rattle.flush.proofs.hour_of.Tie as tie
 
@@ -21,17 +21,17 @@ rem-remainder c = rw (to_z-of_z c.ranges.seconds) (omega arith, quotient_fits c.
 sub-result : tie.Need-overflow-sub-result
 sub-result c =
     let s : tie.Start = c.before in
-    rw (to_z-of_z (div-quotient s).1, to_z-of_z s.ranges.seconds) (less-fits s.ranges.seconds _ _ (omega arith) (omega arith))
+    rw (to_z-of_z (div-quotient s).1, to_z-of_z s.ranges.seconds) (less_fits s.ranges.seconds _ _ (omega arith) (omega arith))
 
 -- what the test of the remainder says
-remainder-test : (s : tie.Start) (t : Bool) → lt_z (to_z w64 (of_z w64 (rem_z (to_z w64 (of_z w64 s.args.seconds)) (pos secondsPerHour)))) (pos 0) ≡ t
+remainder-test : (s : tie.Start) (t : Bool) → lt_z (to_z w64 (of_z w64 (rem_z (to_z w64 (of_z w64 s.args.seconds)) (pos seconds_per_hour)))) (pos 0) ≡ t
     → lt_z (remainder s.args.seconds) (pos 0) ≡ t
-remainder-test s t e = let f = s.ranges.seconds in rw (to_z-of_z f, to_z-of_z (remainder-fits f)) at e
+remainder-test s t e = let f = s.ranges.seconds in rw (to_z-of_z f, to_z-of_z (remainder_fits f)) at e
 
 returns : tie.Need-returns
 returns c =
     let s : tie.Start = c.before in
-    rw (to_z-of_z (sub-result c), to_z-of_z (div-quotient s).1, to_z-of_z s.ranges.seconds) (rounded-up s.args.seconds (remainder-test s true c.if1.true))
+    rw (to_z-of_z (sub-result c), to_z-of_z (div-quotient s).1, to_z-of_z s.ranges.seconds) (rounded_up s.args.seconds (remainder-test s true c.if1.true))
 
 returns-2 : tie.Need-returns-2
 returns-2 c =

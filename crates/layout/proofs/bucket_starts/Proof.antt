@@ -7,31 +7,31 @@ use native.Mathlib.Omega.{arith}
 use borrow.Author.Rules.{rules}
 use lib.Dec.{ltb}
 use Rattle.layout.specs.declared.Layout.{Layout}
-use Rattle.layout.specs.Layout.{plain_of, halvedOf, halves, layout_of, powerAbove, bucketStartsOf}
-use Rattle.layout.specs.Fits.{Fits, layout-fits, count_small}
+use Rattle.layout.specs.Layout.{plain_of, halved_of, halves, layout_of, power_above, bucket_starts_of}
+use Rattle.layout.specs.Fits.{Fits, layout_fits, count_small}
 use Rattle.layout.proofs.bucket_starts.Statement.{statement}
 use Rattle.layout.proofs.bucket_starts.Tie as tie
 
 power-above-requires : tie.Need-power-above-requires
-power-above-requires c κs = count_small (subst⁻¹ Fits c.layout-at.ensures (layout-fits _ c.before.requires))
+power-above-requires c κs = count_small (subst⁻¹ Fits c.layout-at.ensures (layout_fits _ c.before.requires))
 
 -- attempt 2 has no fewer segments than attempt 1
 no-fewer : (n : ℕ) → (layout_of n 1).segment_count ≤ (layout_of n 2).segment_count
 unfolding layout_of halves
-no-fewer n = by-test (ltb 4 n) (plain_of n)
+no-fewer n = by_test (ltb 4 n) (plain_of n)
   where
-    by-test : (b : Bool) (p : Layout) → (cond (b && false) (halvedOf p) p).segment_count ≤ (cond (b && true) (halvedOf p) p).segment_count
-    by-test true p = omega arith
-    by-test false p = le_refl _
+    by_test : (b : Bool) (p : Layout) → (cond (b && false) (halved_of p) p).segment_count ≤ (cond (b && true) (halved_of p) p).segment_count
+    by_test true p = omega arith
+    by_test false p = le_refl _
 
-starts : (n : ℕ) → powerAbove (layout_of n 2).segment_count ≡ bucketStartsOf n
-unfolding bucketStartsOf
-starts n = ap powerAbove (sym (max-eq_right (no-fewer n)))
+starts : (n : ℕ) → power_above (layout_of n 2).segment_count ≡ bucket_starts_of n
+unfolding bucket_starts_of
+starts n = ap power_above (sym (max-eq_right (no-fewer n)))
 
 returns : tie.Need-returns
 returns c =
     let b = c.before in
-    c.power-above.ensures ∙ ap (λ (l : Layout). powerAbove l.segment_count) b.layout-at.ensures ∙ starts b.before.args.n
+    c.power_above_lem.ensures ∙ ap (λ (l : Layout). power_above l.segment_count) b.layout-at.ensures ∙ starts b.before.args.n
 
 pub bucket-starts-spec : {M : Type 1} → statement M
 bucket-starts-spec = tie.close (tie.spec (λ c κs. search rules) power-above-requires returns)

@@ -4,8 +4,8 @@ use Prim.Native.Nat.{◌%◌}
 use native.Mathlib.Omega.{arith}
 use borrow.Author.Rules.{rules}
 use borrow.Author.Tests.{le-ltb, lt-ltb, eq-eqb, ne_eqb}
-use Rattle.layout.specs.Layout.{halves, halvedOf, layout_of}
-use Rattle.layout.specs.Fits.{Fits, plain_fits, halved-fits, count_small}
+use Rattle.layout.specs.Layout.{halves, halved_of, layout_of}
+use Rattle.layout.specs.Fits.{Fits, plain_fits, halved_fits, count_small}
 use Rattle.layout.proofs.Room.{room}
 use Rattle.layout.proofs.layout_at.Statement.{statement}
 use Rattle.layout.proofs.layout_at.Tie as tie
@@ -33,7 +33,7 @@ add-with c =
 with-requires : tie.Need-with-requires
 with-requires c κs =
     let b = c.before.before.before in
-    room _ _ (ap halvedOf b.before.plain.ensures) (halved-fits b.before.before.requires (omega arith))
+    room _ _ (ap halved_of b.before.plain.ensures) (halved_fits b.before.before.requires (omega arith))
 
 returns-3 : tie.Need-returns-3
 unfolding halves layout_of
@@ -41,7 +41,7 @@ returns-3 c =
     let b = c.before.before.before in
     let p = b.before.before in
     let args = p.before.args in
-    c.with.ensures ∙ ap halvedOf p.plain.ensures ∙ simp (lt-ltb 4 args.n (omega arith), eq-eqb (args.attempt % 4) 2 b.if2.false)
+    c.with.ensures ∙ ap halved_of p.plain.ensures ∙ simp (lt-ltb 4 args.n (omega arith), eq-eqb (args.attempt % 4) 2 b.if2.false)
 
 pub layout-at-spec : {M : Type 1} → statement M
 layout-at-spec = tie.close (tie.spec (λ c κs. search rules) returns returns-2 mul-with add-with with-requires returns-3)

@@ -6,28 +6,28 @@ use Rattle.layout.proofs.segment_length.Statement.{statement}
 use Rattle.layout.proofs.segment_length.Tie as tie
 
 returns : tie.Need-returns
-returns c = sym (ranges.length-4 _ (omega arith) (omega arith))
+returns c = sym (ranges.length_4 _ (omega arith) (omega arith))
 
 returns-2 : tie.Need-returns-2
-returns-2 c = sym (ranges.length-8 c.before.before.args.n (omega arith) (omega arith))
+returns-2 c = sym (ranges.length_8 c.before.before.args.n (omega arith) (omega arith))
 
 returns-3 : tie.Need-returns-3
-returns-3 c = sym (ranges.length-16 c.before.before.before.args.n (omega arith) (omega arith))
+returns-3 c = sym (ranges.length_16 c.before.before.before.args.n (omega arith) (omega arith))
 
 returns-4 : tie.Need-returns-4
-returns-4 c = sym (ranges.length-32 c.before.before.before.before.args.n (omega arith) (omega arith))
+returns-4 c = sym (ranges.length_32 c.before.before.before.before.args.n (omega arith) (omega arith))
 
 returns-5 : tie.Need-returns-5
-returns-5 c = sym (ranges.length-64 c.before.before.before.before.before.args.n (omega arith) (omega arith))
+returns-5 c = sym (ranges.length_64 c.before.before.before.before.before.args.n (omega arith) (omega arith))
 
 returns-6 : tie.Need-returns-6
-returns-6 c = sym (ranges.length-128 c.before.before.before.before.before.before.args.n (omega arith) (omega arith))
+returns-6 c = sym (ranges.length_128 c.before.before.before.before.before.before.args.n (omega arith) (omega arith))
 
 returns-7 : tie.Need-returns-7
-returns-7 c = sym (ranges.length-256 c.before.before.before.before.before.before.before.args.n (omega arith) (omega arith))
+returns-7 c = sym (ranges.length_256 c.before.before.before.before.before.before.before.args.n (omega arith) (omega arith))
 
 returns-8 : tie.Need-returns-8
-returns-8 c = sym (ranges.length-512 c.before.before.before.before.before.before.before.args.n (omega arith) (omega arith))
+returns-8 c = sym (ranges.length_512 c.before.before.before.before.before.before.before.args.n (omega arith) (omega arith))
 
 pub segment-length-spec : {M : Type 1} → statement M
 segment-length-spec =

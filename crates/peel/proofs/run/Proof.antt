@@ -1,6 +1,6 @@
 -- `peel::run` meets its contract: the sums counted are those of the keys' hashes. Assumes nothing.
 use borrow.Author.Rules.{rules}
-use Rattle.peel.proofs.Running.{can-count, can-take-all, ran}
+use Rattle.peel.proofs.Running.{can_count, can_take_all, ran}
 use Rattle.peel.proofs.run.Statement.{statement}
 use Rattle.peel.proofs.run.Tie as tie
 
@@ -8,13 +8,13 @@ abbrev start : tie.After-count-keys → tie.Start
 start k = k.before.before.before.before.before.before.before.before.before
 
 count-keys-requires : tie.Need-count-keys-requires
-count-keys-requires c κs = can-count c.before.before.before.before.before.before.before.before.requires
+count-keys-requires c κs = can_count c.before.before.before.before.before.before.before.before.requires
 
 take-all-requires : tie.Need-take-all-requires
 take-all-requires c κs =
     let s : tie.After-stack-lone = c.before.before.before.before.before.before.before in
     let k : tie.After-count-keys = s.before.before.before.before.before.before.before in
-    can-take-all (start k).requires _ _ _ k.count-keys.ensures
+    can_take_all (start k).requires _ _ _ k.count-keys.ensures
     k.count-keys.auto.1.1.1.1.1.0 s.stack-lone.auto.1.0 s.stack-lone.ensures
 
 returns : tie.Need-returns

@@ -3,12 +3,12 @@ use mathlib.Core.Path.{◌≡◌, sym, ap, ◌∙◌}
 use lib.ListN.{length}
 use Rattle.answers.specs.Answers.{gives}
 use Rattle.answers.specs.Checks.{done}
-use Rattle.descriptor.specs.Paper.{checkPaper}
-use Rattle.fuse.specs.Memory.{Memory, checksOf}
+use Rattle.descriptor.specs.Paper.{check_paper}
+use Rattle.fuse.specs.Memory.{Memory, checks_of}
 use Rattle.fuse.specs.Checked.{Passed, passed}
 use Rattle.plan.specs.Plans.{scratch}
 use Rattle.plan.specs.CarriedOut.{part}
-use Rattle.plan.proofs.PutBack.{Rooms, within-lent, parts-can-plan, refused, planned}
+use Rattle.plan.proofs.PutBack.{Rooms, within_lent, parts_can_plan, refused, planned}
 use borrow.Author.Rules.{rules}
 use Rattle.plan.proofs.make.Statement.{statement}
 use Rattle.plan.proofs.make.Tie as tie
@@ -31,9 +31,9 @@ told c = c.before.before
 -- ---- where the checks pass
 
 good : (c : tie.After-enum-told) → let e = (entry c).args in
-    checksOf (length e.keys.now) e.last e.room (length e.lone.now) (length e.counts.now) (length e.sums.now)
+    checks_of (length e.keys.now) e.last e.room (length e.lone.now) (length e.counts.now) (length e.sums.now)
     (length e.positions.now) (length e.order.now) (length e.starts.now) ≡ gives done
-good c = sym c.before.before.check.ensures ∙ ap checkPaper c.enum_told.given.1
+good c = sym c.before.before.check.ensures ∙ ap check_paper c.enum_told.given.1
 
 abbrev fit : (c : tie.After-enum-told) → let e = (entry c).args in
     Passed (length e.keys.now) e.last e.room (length e.lone.now) (length e.counts.now) (length e.sums.now)
@@ -44,26 +44,26 @@ fit c = passed _ _ _ _ _ _ _ _ _ (good c)
 abbrev rooms : (c : tie.After-bucket-starts) → Rooms (slotted c).slots-for.result (length (entry (told c)).args.keys.now) c.bucket-starts.result (lent (entry (told c)))
 rooms c =
     let e = (entry (told c)).args in
-    within-lent e.keys.now e.first e.last e.room (lent (entry (told c))) (slotted c).slots-for.ensures c.bucket-starts.ensures (good (told c))
+    within_lent e.keys.now e.first e.last e.room (lent (entry (told c))) (slotted c).slots-for.ensures c.bucket-starts.ensures (good (told c))
 
 -- ---- the needs
 
 cast-slots-for : tie.Need-overflow-cast-slots-for
-cast-slots-for c = let few = (fit c).few-keys in search (rules, few)
+cast-slots-for c = let few = (fit c).few_keys in search (rules, few)
 
 cast-bucket-starts : tie.Need-overflow-cast-bucket-starts
-cast-bucket-starts c = let few = (fit c.before).few-keys in search (rules, few)
+cast-bucket-starts c = let few = (fit c.before).few_keys in search (rules, few)
 
 on-parts-requires : tie.Need-on-parts-requires
 on-parts-requires c κs =
     let p : tie.After-bucket-starts = c.before.before.before.before.before.before in
     let e = entry (told p) in
-    parts-can-plan _ _ _ _ (lent e) (slotted p).slots-for.ensures p.bucket-starts.ensures (good (told p)) e.pre
+    parts_can_plan _ _ _ _ (lent e) (slotted p).slots-for.ensures p.bucket-starts.ensures (good (told p)) e.pre
 
 returns : tie.Need-returns
 returns c =
     let checking : tie.After-check = c.before.before.before in
-    refused _ _ _ _ (lent checking.before.before.before.before.before.before.before.before) _ (sym checking.check.ensures ∙ ap checkPaper c.before.checked.given.1)
+    refused _ _ _ _ (lent checking.before.before.before.before.before.before.before.before) _ (sym checking.check.ensures ∙ ap check_paper c.before.checked.given.1)
 
 returns-2 : tie.Need-returns-2
 returns-2 c =
@@ -75,14 +75,14 @@ pub make_spec : {M : Type 1} → statement M
 make_spec =
     tie.close
     (tie.spec
-    (λ c κs. search rules) (λ c. search rules) (λ c. search rules) cast-slots-for (λ c κs. (fit c).few-keys)
-    (λ c. search rules) cast-bucket-starts (λ c κs. (fit c.before).few-keys)
+    (λ c κs. search rules) (λ c. search rules) (λ c. search rules) cast-slots-for (λ c κs. (fit c).few_keys)
+    (λ c. search rules) cast-bucket-starts (λ c κs. (fit c.before).few_keys)
     (λ c. search rules) (λ c. search rules)
-    (λ c. (rooms c).in-lone) (λ c. part _ _ (rooms c.before).in-lone)
-    (λ c. (rooms c.before).in-counts) (λ c. part _ _ (rooms c.before.before).in-counts)
-    (λ c. (rooms c.before.before).in-sums) (λ c. part _ _ (rooms c.before.before.before).in-sums)
-    (λ c. (rooms c.before.before.before).in-positions) (λ c. part _ _ (rooms c.before.before.before.before).in-positions)
+    (λ c. (rooms c).in_lone) (λ c. part _ _ (rooms c.before).in_lone)
+    (λ c. (rooms c.before).in_counts) (λ c. part _ _ (rooms c.before.before).in_counts)
+    (λ c. (rooms c.before.before).in_sums) (λ c. part _ _ (rooms c.before.before.before).in_sums)
+    (λ c. (rooms c.before.before.before).in_positions) (λ c. part _ _ (rooms c.before.before.before.before).in_positions)
     (λ c. (rooms c.before.before.before.before).in_order) (λ c. part _ _ (rooms c.before.before.before.before.before).in_order)
-    (λ c. (rooms c.before.before.before.before.before).in-starts) (λ c. part _ _ (rooms c.before.before.before.before.before.before).in-starts)
+    (λ c. (rooms c.before.before.before.before.before).in_starts) (λ c. part _ _ (rooms c.before.before.before.before.before.before).in_starts)
     on-parts-requires returns
     (λ c. search rules) (λ c. search rules) (λ c. search rules) (λ c. search rules) (λ c. search rules) (λ c. search rules) returns-2)

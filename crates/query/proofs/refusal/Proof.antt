@@ -3,16 +3,16 @@ use mathlib.Core.Path.{◌≡◌, ap, sym, ◌∙◌}
 use Rattle.answers.specs.Answers.{Answer, refuses}
 use Rattle.answers.specs.Checks.{Done, ◌then◌}
 use Rattle.descriptor.specs.declared.CheckAnswer.{CheckAnswer}
-use Rattle.descriptor.specs.Paper.{checkPaper}
-use Rattle.query.specs.FirstFault.{firstFault}
+use Rattle.descriptor.specs.Paper.{check_paper}
+use Rattle.query.specs.FirstFault.{first_fault}
 use borrow.Author.Rules.{rules}
 use Rattle.query.proofs.refusal.Statement.{statement}
 use Rattle.query.proofs.refusal.Tie as tie
 
 -- the refusal where `check` answered so
 answer : (c : tie.After-check) (checked : CheckAnswer) → checked ≡ c.check.result → let a = c.before.args in
-    checkPaper checked then refuses 11 ≡ firstFault a.segment a.mask a.span
-answer c checked e = ap (λ (checks : Answer Done). checks then refuses 11) (ap checkPaper e ∙ c.check.ensures)
+    check_paper checked then refuses 11 ≡ first_fault a.segment a.mask a.span
+answer c checked e = ap (λ (checks : Answer Done). checks then refuses 11) (ap check_paper e ∙ c.check.ensures)
 
 returns : tie.Need-returns
 returns c = answer c.before.before _ (sym c.enum_told.given.1)

@@ -1,18 +1,18 @@
 -- `words::wrapping_mul` meets its contract: each product is of two numbers of 32 bits. Assumes nothing.
 use Rattle.std.proofs.Common.{◌^◌, ◌∙◌, arith, rules}
 use Rattle.words.specs.Modulo.{low_product}
-use Rattle.words.proofs.Fits.{product-below}
+use Rattle.words.proofs.Fits.{product_below}
 use Rattle.words.proofs.wrapping_mul.Statement.{statement}
 use Rattle.words.proofs.wrapping_mul.Tie as tie
 
 mul-wrapping-add-u64 : tie.Need-overflow-mul-wrapping-add-u64
-mul-wrapping-add-u64 c = record { fits = product-below 32 32 (omega arith) (omega arith) }
+mul-wrapping-add-u64 c = record { fits = product_below 32 32 (omega arith) (omega arith) }
 
 mul-wrapping-add-u64-2 : tie.Need-overflow-mul-wrapping-add-u64-2
-mul-wrapping-add-u64-2 c = record { fits = product-below 32 32 (omega arith) (omega arith) }
+mul-wrapping-add-u64-2 c = record { fits = product_below 32 32 (omega arith) (omega arith) }
 
 mul-wrapping-add-u64-3 : tie.Need-overflow-mul-wrapping-add-u64-3
-mul-wrapping-add-u64-3 c = record { fits = product-below 32 32 (omega arith) (omega arith) }
+mul-wrapping-add-u64-3 c = record { fits = product_below 32 32 (omega arith) (omega arith) }
 
 returns : tie.Need-returns
 returns c =

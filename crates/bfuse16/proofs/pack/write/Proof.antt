@@ -10,8 +10,8 @@ returns c =
     let cleared : tie.After-clear-u16 = stored.before.before.before.before.before.before in
     record {
       filled = rw cleared.clear-u16.ensures at stored.fill16.ensures;
-      positions-zeroed = last.clear-taken.ensures.0;
-      order-zeroed = last.clear-taken.ensures.1;
+      positions_zeroed = last.clear-taken.ensures.0;
+      order_zeroed = last.clear-taken.ensures.1;
     }
 
 fill16-requires : tie.Need-fill16-requires

@@ -2,7 +2,7 @@
 use Prim.Native.Nat.{◌≤◌}
 use lib.ListN.{length}
 use Rattle.plan.specs.Plans.{taken, Storable}
-use Rattle.plan.specs.CarriedOut.{part, left_alone, zeros-fit, zeros-written, storable, can_write, keys-written}
+use Rattle.plan.specs.CarriedOut.{part, left_alone, zeros-fit, zeros_written, storable, can_write, keys_written}
 use borrow.Author.Rules.{rules}
 use Rattle.bfuse8.proofs.pack.carry_out.Statement.{statement}
 use Rattle.bfuse8.proofs.pack.carry_out.Tie as tie
@@ -36,13 +36,13 @@ returns-2 : tie.Need-returns-2
 returns-2 c =
     let cleared : tie.After-clear-u8 = c.before.before in
     let p : tie.After-known-told2 = cleared.before.before in
-    zeros-written 8 _ _ _ _ (stuck p).requires p.before.plan2.given.1 cleared.clear-u8.ensures
+    zeros_written 8 _ _ _ _ (stuck p).requires p.before.plan2.given.1 cleared.clear-u8.ensures
 
 returns-3 : tie.Need-returns-3
 returns-3 c =
     let written : tie.After-write = c.before.before.before.before.before.before in
     let p : tie.After-known-told3 = written.before.before.before.before in
-    keys-written 8 _ _ _ _ (found p).requires p.before.plan3.given.1 written.write.ensures
+    keys_written 8 _ _ _ _ (found p).requires p.before.plan3.given.1 written.write.ensures
 
 pub carry-out-spec : {M : Type 1} → statement M
 carry-out-spec =
@@ -50,8 +50,8 @@ carry-out-spec =
     (tie.spec
     (λ c. search rules) (λ c. search rules) (λ c. search rules) fits (λ c. part _ _ (fits c.before))
     (λ c κs. search rules) (λ c. search rules) (λ c. search rules) add-places
-    (λ c. (kept c).in-room) (λ c. part _ _ (kept c.before).in-room)
-    (λ c. (kept c.before).in-positions) (λ c. part _ _ (kept c.before.before).in-positions)
+    (λ c. (kept c).in_room) (λ c. part _ _ (kept c.before).in_room)
+    (λ c. (kept c.before).in_positions) (λ c. part _ _ (kept c.before.before).in_positions)
     (λ c. (kept c.before.before).in_order) (λ c. part _ _ (kept c.before.before.before).in_order)
     write-requires
     (λ c. left_alone 8 _ _ _ _ c.before.before.before.before.before.before.requires c.before.plan.given.1)

@@ -10,8 +10,8 @@ returns c =
     let cleared : tie.After-clear-u8 = stored.before.before.before.before.before.before in
     record {
       filled = rw cleared.clear-u8.ensures at stored.fill8.ensures;
-      positions-zeroed = last.clear-taken.ensures.0;
-      order-zeroed = last.clear-taken.ensures.1;
+      positions_zeroed = last.clear-taken.ensures.0;
+      order_zeroed = last.clear-taken.ensures.1;
     }
 
 fill8-requires : tie.Need-fill8-requires

@@ -1,12 +1,12 @@
 -- `due_text::clock::read` meets its contract: a minus sign in front, or digits alone. Assumes nothing.
 use mathlib.Core.Path.{◌∙◌}
 use borrow.Author.Rules.{rules}
-use Rattle.due_text.proofs.Clocks.{empty-word, after_minus, without-minus}
+use Rattle.due_text.proofs.Clocks.{empty_word, after_minus, without-minus}
 use Rattle.due_text.proofs.clock.read.Statement.{statement}
 use Rattle.due_text.proofs.clock.read.Tie as tie
 
 returns : tie.Need-returns
-returns c = empty-word _ c.if1.true
+returns c = empty_word _ c.if1.true
 
 returns-2 : tie.Need-returns-2
 returns-2 c =

@@ -5,7 +5,7 @@ use borrow.Author.Rules.{rules}
 use Rattle.due_text.specs.Decimal.{number_of}
 use Rattle.due_text.specs.declared.decimal.Number.TheVariants.{Value}
 use Rattle.due_text.specs.declared.clock.Clock.{Clock}
-use Rattle.due_text.specs.Clock.{clockAt}
+use Rattle.due_text.specs.Clock.{clock_at}
 use Rattle.due_text.proofs.clock.seconds.Statement.{statement}
 use Rattle.due_text.proofs.clock.seconds.Tie as tie
 
@@ -15,9 +15,9 @@ read_as m = sym m.number.given.1 ∙ m.before.before.read.ensures
 
 -- what is answered of the value with the sign that was tested
 with-sign : (m : tie.After-number) (b : Bool) {r : Clock} → let a = m.before.before.before.before.args in
-    a.negative ≡ b → r ≡ clockAt b (Value m.number.given.0.0) → r ≡ clockAt a.negative (number_of a.digits.now)
+    a.negative ≡ b → r ≡ clock_at b (Value m.number.given.0.0) → r ≡ clock_at a.negative (number_of a.digits.now)
 with-sign m b tested e =
-    e ∙ ap (clockAt b) (read_as m) ∙ ap (λ (t : Bool). clockAt t (number_of m.before.before.before.before.args.digits.now)) (sym tested)
+    e ∙ ap (clock_at b) (read_as m) ∙ ap (λ (t : Bool). clock_at t (number_of m.before.before.before.before.args.digits.now)) (sym tested)
 
 returns : tie.Need-returns
 returns c = with-sign c.before.before.before true c.before.if1.true c.before-zero.ensures
@@ -26,10 +26,10 @@ returns-2 : tie.Need-returns-2
 returns-2 c = with-sign c.before.before.before false c.before.if1.false c.after-zero.ensures
 
 returns-3 : tie.Need-returns-3
-returns-3 c = ap (clockAt _) (sym c.enum_told.given.1 ∙ c.before.before.read.ensures)
+returns-3 c = ap (clock_at _) (sym c.enum_told.given.1 ∙ c.before.before.read.ensures)
 
 returns-4 : tie.Need-returns-4
-returns-4 c = ap (clockAt _) (sym c.enum-told2.given.1 ∙ c.before.before.read.ensures)
+returns-4 c = ap (clock_at _) (sym c.enum-told2.given.1 ∙ c.before.before.read.ensures)
 
 pub seconds-spec : {M : Type 1} → statement M
 seconds-spec =

@@ -4,13 +4,13 @@ use mathlib.Core.Path.{◌≡◌, sym, ◌∙◌}
 use borrow.Author.Rules.{rules}
 use native.Mathlib.Omega.{arith}
 use lib.ListN.{length, drop, get_or}
-use Rattle.due_text.specs.Decimal.{valueFrom}
-use Rattle.due_text.proofs.Digits.{one_digit_more, all-counted, grows, fits, too_large}
+use Rattle.due_text.specs.Decimal.{value_from}
+use Rattle.due_text.proofs.Digits.{one_digit_more, all_counted, grows, fits, too_large}
 use Rattle.due_text.proofs.decimal.value.Statement.{statement}
 use Rattle.due_text.proofs.decimal.value.Tie as tie
 
 abbrev invariant-loop : tie.invariant-loop
-invariant-loop digits value₀ i₀ value i = (i ≤ length digits) × (value < 2 ^ 64) × (valueFrom value (drop i digits) ≡ valueFrom 0 digits)
+invariant-loop digits value₀ i₀ value i = (i ≤ length digits) × (value < 2 ^ 64) × (value_from value (drop i digits) ≡ value_from 0 digits)
 
 abbrev decreases-loop : tie.decreases-loop
 decreases-loop digits value₀ i₀ value i = length digits - i
@@ -19,7 +19,7 @@ decreases-loop digits value₀ i₀ value i = length digits - i
 with-next : (l : tie.In-loop invariant-loop decreases-loop)
     → let h = l.before in
     let digits = h.before.before.args.digits.now in
-    h.loop.value * 10 + (get_or digits h.loop.i 0 - 48) ≤ valueFrom 0 digits
+    h.loop.value * 10 + (get_or digits h.loop.i 0 - 48) ≤ value_from 0 digits
 with-next l =
     let h = l.before in
     let digits = h.before.before.args.digits.now in
@@ -44,7 +44,7 @@ loop-again c =
 returns-3 : tie.Need-returns-3 invariant-loop decreases-loop
 returns-3 c =
     let h = c.before in
-    let whole = sym (all-counted h.loop.value h.before.before.args.digits.now h.loop.i (omega arith)) ∙ h.loop.invariant.2 in
+    let whole = sym (all_counted h.loop.value h.before.before.args.digits.now h.loop.i (omega arith)) ∙ h.loop.invariant.2 in
     rw (← whole) (fits _ h.loop.invariant.1)
 
 pub value_spec : {M : Type 1} → statement M

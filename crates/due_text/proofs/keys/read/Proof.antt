@@ -1,4 +1,4 @@
--- `due_text::keys::read` meets its contract: each line does to the keys so far what `afterLine` says. Assumes nothing.
+-- `due_text::keys::read` meets its contract: each line does to the keys so far what `after_line` says. Assumes nothing.
 use Prim.Native.Nat.{◌+◌, ◌-◌, min}
 use mathlib.Core.Path.{sym, ◌∙◌}
 use mathlib.Core.Logic.{⊎_elim}
@@ -6,7 +6,7 @@ use borrow.Author.Rules.{rules}
 use native.Mathlib.Omega.{arith}
 use lib.ListN.{length}
 use lib.Seq.{length-take-le}
-use Rattle.due_text.proofs.SoFar.{SoFar, begins, no-line-left, bad-line, after-blank, no_place, repeated, after-key}
+use Rattle.due_text.proofs.SoFar.{SoFar, begins, no_line_left, bad_line, after_blank, no_place, repeated, after-key}
 use Rattle.due_text.proofs.keys.read.Statement.{statement}
 use Rattle.due_text.proofs.keys.read.Tie as tie
 
@@ -26,7 +26,7 @@ at-match c =
     let r : tie.After-read invariant-loop decreases-loop = c.before in
     let l = r.before.before.before in
     let found = r.before.before.find.ensures.0 in
-    ⊎_elim (λ w. rw (w.2, w.3) (after-blank l.before.loop.invariant l.loop-test.true found (sym w.1.given.1 ∙ r.read.ensures)))
+    ⊎_elim (λ w. rw (w.2, w.3) (after_blank l.before.loop.invariant l.loop-test.true found (sym w.1.given.1 ∙ r.read.ensures)))
     (λ w.
     rw (w.7, w.8)
     (after-key l.before.loop.invariant l.loop-test.true found (sym w.1.given.1 ∙ r.read.ensures) (omega (arith, w.3.left)) (sym w.5.ensures ∙ w.6.left)))
@@ -55,13 +55,13 @@ returns-3 : tie.Need-returns-3 invariant-loop decreases-loop
 returns-3 c =
     let r : tie.After-read invariant-loop decreases-loop = c.before.before.before in
     let l = r.before.before.before in
-    bad-line l.before.loop.invariant l.loop-test.true r.before.before.find.ensures.0 (sym c.before.said2.given.1 ∙ r.read.ensures)
+    bad_line l.before.loop.invariant l.loop-test.true r.before.before.find.ensures.0 (sym c.before.said2.given.1 ∙ r.read.ensures)
 
 loop-again : tie.Need-loop-preserved invariant-loop decreases-loop
 loop-again c = rw c.past.ensures (at-match c.before)
 
 returns-4 : tie.Need-returns-4 invariant-loop decreases-loop
-returns-4 c = no-line-left c.before.loop.invariant c.loop-test.false
+returns-4 c = no_line_left c.before.loop.invariant c.loop-test.false
 
 pub read_spec : {M : Type 1} → statement M
 read_spec =

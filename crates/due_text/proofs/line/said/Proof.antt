@@ -1,7 +1,7 @@
 -- `due_text::line::said` meets its contract: each answer by the words that were found. Assumes nothing.
 use borrow.Author.Rules.{rules}
 use mathlib.Core.Path.{◌∙◌}
-use Rattle.due_text.proofs.Said.{no_word, one_word, two-words, three-words, four-words}
+use Rattle.due_text.proofs.Said.{no_word, one_word, two_words, three_words, four_words}
 use Rattle.due_text.proofs.line.said.Statement.{statement}
 use Rattle.due_text.proofs.line.said.Tie as tie
 
@@ -16,13 +16,13 @@ returns-2 c =
 returns-3 : tie.Need-returns-3
 returns-3 c =
     let f : tie.Else2 = c.before.before in
-    two-words f.before.before.before.next.ensures f.before.before.if1.false f.before.next2.ensures f.if2.false c.before.next3.ensures c.if3.true
+    two_words f.before.before.before.next.ensures f.before.before.if1.false f.before.next2.ensures f.if2.false c.before.next3.ensures c.if3.true
 
 returns-4 : tie.Need-returns-4
 returns-4 c =
     let g : tie.Else3 = c.before.before.before in
     let f : tie.Else2 = g.before.before in
-    four-words f.before.before.before.next.ensures f.before.before.if1.false f.before.next2.ensures f.if2.false g.before.next3.ensures g.if3.false
+    four_words f.before.before.before.next.ensures f.before.before.if1.false f.before.next2.ensures f.if2.false g.before.next3.ensures g.if3.false
     c.before.before.next4.ensures c.if4.true
 
 returns-5 : tie.Need-returns-5
@@ -31,7 +31,7 @@ returns-5 c =
     let g : tie.Else3 = h.before.before.before in
     let f : tie.Else2 = g.before.before in
     c.due.ensures
-    ∙ three-words f.before.before.before.next.ensures f.before.before.if1.false f.before.next2.ensures f.if2.false g.before.next3.ensures g.if3.false
+    ∙ three_words f.before.before.before.next.ensures f.before.before.if1.false f.before.next2.ensures f.if2.false g.before.next3.ensures g.if3.false
     h.before.before.next4.ensures h.if4.false
 
 pub said-spec : {M : Type 1} → statement M

@@ -22,5 +22,5 @@ fill-one-spec =
     (λ c κs. search rules) (λ c κs. search rules) (λ c. search rules) (λ c. search rules) (λ c. search rules) (λ c. search rules) (λ c. search rules)
     (λ c. search rules) (λ c. search rules) (λ c. search rules) (λ c. search rules)
     (λ c. (key c.before.before).inside0) (λ c. (key c.before.before.before).inside1) (λ c. (key c.before.before.before.before).inside2)
-    (λ c. (key c.before.before.before.before.before).inside-own) (λ c. (key c.before.before.before.before.before).inside-own)
+    (λ c. (key c.before.before.before.before.before).inside_own) (λ c. (key c.before.before.before.before.before).inside_own)
     (λ c. search rules) returns)

@@ -24,6 +24,6 @@ fill-one-spec =
     (λ c. omega (arith, key c.before)) (λ c. (key c.before.before).inside0)
     (λ c. omega (arith, key c.before.before)) (λ c. (key c.before.before.before).inside1)
     (λ c. omega (arith, key c.before.before.before)) (λ c. (key c.before.before.before.before).inside2)
-    (λ c. omega (arith, key c.before.before.before.before)) (λ c. (key c.before.before.before.before.before).inside-own)
-    (λ c. omega (arith, key c.before.before.before.before.before)) (λ c. (key c.before.before.before.before.before).inside-own)
+    (λ c. omega (arith, key c.before.before.before.before)) (λ c. (key c.before.before.before.before.before).inside_own)
+    (λ c. omega (arith, key c.before.before.before.before.before)) (λ c. (key c.before.before.before.before.before).inside_own)
     (λ c. search rules) returns)

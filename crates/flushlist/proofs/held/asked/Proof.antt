@@ -7,17 +7,17 @@ use lib.ListN.{length, take, drop}
 use borrow.Author.Rules.{part_to_end}
 use borrow.Author.Rules.{rules}
 use Rattle.answers.specs.Answers.{Answer}
-use Rattle.fuse.specs.Query.{containsBytesOf}
+use Rattle.fuse.specs.Query.{contains_bytes_of}
 use Rattle.flushlist.specs.Held.{asked_of, head_of}
 use Rattle.flushlist.proofs.held.asked.Statement.{statement}
 use Rattle.flushlist.proofs.held.asked.Tie as tie
 
-by-head : (file : List ℕ) (key head : ℕ) (a : Answer Bool) → a ≡ containsBytesOf 8 (take head file) (take (length file - head) (drop head file)) key
+by-head : (file : List ℕ) (key head : ℕ) (a : Answer Bool) → a ≡ contains_bytes_of 8 (take head file) (take (length file - head) (drop head file)) key
     → head ≡ head_of file → a ≡ asked_of file key
 unfolding asked_of
 by-head file key head a e h =
-    e ∙ ap (λ (rest : List ℕ). containsBytesOf 8 (take head file) rest key) (part_to_end file head)
-    ∙ ap (λ (n : ℕ). containsBytesOf 8 (take n file) (drop n file) key) h
+    e ∙ ap (λ (rest : List ℕ). contains_bytes_of 8 (take head file) rest key) (part_to_end file head)
+    ∙ ap (λ (n : ℕ). contains_bytes_of 8 (take n file) (drop n file) key) h
 
 returns : tie.Need-returns
 returns c =

@@ -2,12 +2,12 @@
 use mathlib.Core.Path.{sym}
 use lib.Seq.{length-take-le}
 use borrow.Author.Rules.{rules}
-use Rattle.due_text.specs.Room.{within-room}
+use Rattle.due_text.specs.Room.{within_room}
 use Rattle.flushlist.proofs.pack.pack_text.Statement.{statement}
 use Rattle.flushlist.proofs.pack.pack_text.Tie as tie
 
 array-share-prefix-room : tie.Need-array-share-prefix-room
-array-share-prefix-room c = rw c.before.answer.given.1 at (within-room _ _ c.before.before.before.before.read.ensures)
+array-share-prefix-room c = rw c.before.answer.given.1 at (within_room _ _ c.before.before.before.before.read.ensures)
 
 slice-aggregate-pack-keys : tie.Need-slice-aggregate-pack-keys
 slice-aggregate-pack-keys c = sym (length-take-le _ _ (array-share-prefix-room c.before))

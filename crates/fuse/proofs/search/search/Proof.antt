@@ -6,7 +6,7 @@ use borrow.Author.Rules.{rules}
 use lib.ListN.{length}
 use Rattle.fuse.specs.Attempts.{free}
 use Rattle.fuse.specs.Seek.{CanAttempt}
-use Rattle.fuse.proofs.Searching.{first_of, none_left, found-one, go_on, no-hope}
+use Rattle.fuse.proofs.Searching.{first_of, none_left, found_one, go_on, no_hope}
 use Rattle.fuse.proofs.search.search.Statement.{statement}
 use Rattle.fuse.proofs.search.search.Tie as tie
 
@@ -39,7 +39,7 @@ entry c = start (turn (tried (stuck c.before.before.before).before)).before
 -- ---- the needs
 
 loop-holds : tie.Need-loop-init invariant-loop decreases-loop
-loop-holds c = (omega arith, omega arith, refl, c.before.before.before.before.before.before.requires.can-attempt, refl, refl)
+loop-holds c = (omega arith, omega arith, refl, c.before.before.before.before.before.before.requires.can_attempt, refl, refl)
 
 try-attempt-requires : tie.Need-try-attempt-requires invariant-loop decreases-loop
 try-attempt-requires c κs = c.before.before.before.before.before.before.loop.invariant.3
@@ -64,13 +64,13 @@ returns-2 : tie.Need-returns-2 invariant-loop decreases-loop
 returns-2 c =
     let after = tried c.before in
     let now = turn after in
-    found-one _ _ _ _ now.before.loop.inv.2 now.if1.left _ _ _ after.try-attempt.ensures c.if2.true
+    found_one _ _ _ _ now.before.loop.inv.2 now.if1.left _ _ _ after.try-attempt.ensures c.if2.true
 
 returns-3 : tie.Need-returns-3 invariant-loop decreases-loop
 returns-3 c =
     let asked : tie.After-hopeless invariant-loop decreases-loop = c.before.before.before in
     let now = turn (tried (stuck asked).before) in
-    no-hope _ _ _ _ _ now.before.loop.inv.3.few (asked.hopeless.ensures c.if3.true)
+    no_hope _ _ _ _ _ now.before.loop.inv.3.few (asked.hopeless.ensures c.if3.true)
 
 pub search-spec : {M : Type 1} → statement M
 search-spec =
@@ -80,4 +80,4 @@ search-spec =
     (λ c. omega arith) (λ c. omega arith) (λ c κs. omega arith) (λ c. omega arith) (λ c. omega arith) loop-again
     (λ c. omega arith) (λ c. omega arith) (λ c. omega arith) (λ c. omega arith) (λ c. omega arith) returns
     (λ c. omega arith) (λ c. omega arith) (λ c. omega arith) (λ c. omega arith) (λ c. omega arith) returns-2
-    (λ c. omega (arith, (entry c).requires.can-attempt)) (λ c. omega (arith, (entry c).requires.can-attempt)) (λ c. omega (arith, (entry c).requires.can-attempt)) (λ c. omega arith) (λ c. omega arith) returns-3)
+    (λ c. omega (arith, (entry c).requires.can_attempt)) (λ c. omega (arith, (entry c).requires.can_attempt)) (λ c. omega (arith, (entry c).requires.can_attempt)) (λ c. omega arith) (λ c. omega arith) returns-3)

@@ -1,14 +1,14 @@
 -- `marked::left::fingerprints16` is safe and ends: it goes up through the elements. Assumes nothing.
 use Rattle.std.proofs.Common.{◌+◌, ◌-◌, ◌≤◌, rules}
-use Rattle.layout.specs.Layout.{maxSlots}
+use Rattle.layout.specs.Layout.{max_slots}
 use Rattle.marked.proofs.left.fingerprints16.Statement.{statement}
 use Rattle.marked.proofs.left.fingerprints16.Tie as tie
 
 abbrev invariant-loop : tie.invariant-loop
-invariant-loop slots fingerprints left₀ i₀ left i = i ≤ maxSlots + 8
+invariant-loop slots fingerprints left₀ i₀ left i = i ≤ max_slots + 8
 
 abbrev decreases-loop : tie.decreases-loop
-decreases-loop slots fingerprints left₀ i₀ left i = maxSlots + 8 - i
+decreases-loop slots fingerprints left₀ i₀ left i = max_slots + 8 - i
 
 pub fingerprints16-spec : {M : Type 1} → statement M
 fingerprints16-spec =

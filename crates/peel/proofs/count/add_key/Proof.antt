@@ -1,7 +1,7 @@
 -- `peel::count::add_key` meets its contract: the three slots differ, so each touch leaves room for the next. Assumes nothing.
 use borrow.Author.Rules.{rules}
 use native.Mathlib.Omega.{arith}
-use Rattle.peel.proofs.KeyAdded.{touch-start, can-touch, touch-next, added}
+use Rattle.peel.proofs.KeyAdded.{touch_start, can_touch, touch-next, added}
 use Rattle.peel.proofs.count.add_key.Statement.{statement}
 use Rattle.peel.proofs.count.add_key.Tie as tie
 
@@ -10,7 +10,7 @@ touch-requires c κs =
     let s : tie.After-slots = c.before.before in
     let can = s.before.before.before.requires in
     let are = s.slots.ensures in
-    can-touch can (omega arith) are (omega arith) (touch-start can)
+    can_touch can (omega arith) are (omega arith) (touch_start can)
 
 touch-requires-2 : tie.Need-touch-requires-2
 touch-requires-2 c κs =
@@ -18,8 +18,8 @@ touch-requires-2 c κs =
     let s : tie.After-slots = k.before.before.before in
     let can = s.before.before.before.requires in
     let are = s.slots.ensures in
-    let one = touch-next can (omega arith) are (omega arith) (touch-start can) k.touch.auto.0 k.touch.auto.1.0 k.touch.ensures in
-    can-touch can (omega arith) are (omega arith) one
+    let one = touch-next can (omega arith) are (omega arith) (touch_start can) k.touch.auto.0 k.touch.auto.1.0 k.touch.ensures in
+    can_touch can (omega arith) are (omega arith) one
 
 touch-requires-3 : tie.Need-touch-requires-3
 touch-requires-3 c κs =
@@ -28,9 +28,9 @@ touch-requires-3 c κs =
     let s : tie.After-slots = k.before.before.before in
     let can = s.before.before.before.requires in
     let are = s.slots.ensures in
-    let one = touch-next can (omega arith) are (omega arith) (touch-start can) k.touch.auto.0 k.touch.auto.1.0 k.touch.ensures in
+    let one = touch-next can (omega arith) are (omega arith) (touch_start can) k.touch.auto.0 k.touch.auto.1.0 k.touch.ensures in
     let two = touch-next can (omega arith) are (omega arith) one l.touch2.auto.0 l.touch2.auto.1.0 l.touch2.ensures in
-    can-touch can (omega arith) are (omega arith) two
+    can_touch can (omega arith) are (omega arith) two
 
 returns : tie.Need-returns
 returns c =

@@ -4,16 +4,16 @@ use mathlib.Core.Path.{◌≡◌, sym, ap, ◌∙◌}
 use Prim.Native.Nat.{◌-◌}
 use native.Mathlib.Omega.{arith}
 use lib.ListN.{length, get_or, length-replicate}
-use Rattle.arith.specs.Murmur3.{hashOf}
-use Rattle.peel.specs.Segments.{slotsIn, hashesOf}
-use Rattle.peel.specs.SlotsApart.{slots_apart, hashes-length, hashes-at}
-use Rattle.peel.proofs.SumsGrow.{Counting, count-start, counts-long, sums-long, counts-few, count-step, count-end}
+use Rattle.arith.specs.Murmur3.{hash_of}
+use Rattle.peel.specs.Segments.{slots_in, hashes_of}
+use Rattle.peel.specs.SlotsApart.{slots_apart, hashes_length, hashes_at}
+use Rattle.peel.proofs.SumsGrow.{Counting, count_start, counts_long, sums_long, counts_few, count_step, count_end}
 use Rattle.peel.proofs.count.count_keys.Statement.{statement}
 use Rattle.peel.proofs.count.count_keys.Tie as tie
 
 abbrev invariant-loop : tie.invariant-loop
 invariant-loop keys seed segment mask span counts₀ sums₀ i₀ counts sums i =
-    Counting (slotsIn segment mask span) (length counts₀) (hashesOf seed keys) counts sums i
+    Counting (slots_in segment mask span) (length counts₀) (hashes_of seed keys) counts sums i
 
 abbrev decreases-loop : tie.decreases-loop
 decreases-loop keys seed segment mask span counts₀ sums₀ i₀ counts sums i = length keys - i
@@ -21,7 +21,7 @@ decreases-loop keys seed segment mask span counts₀ sums₀ i₀ counts sums i 
 loop-holds : tie.Need-loop-init invariant-loop decreases-loop
 loop-holds c =
     let p = c.before.before.before.requires in
-    count-start p.counts-clear p.sums-clear
+    count_start p.counts_clear p.sums_clear
 
 add-key-requires : tie.Need-add-key-requires invariant-loop decreases-loop
 add-key-requires c κs =
@@ -29,9 +29,9 @@ add-key-requires c κs =
     let p = t.before.before.before.before.before.requires in
     let k = t.before.loop.invariant in
     record {
-      layout = rw (counts-long k) p.layout;
-      same = sums-long k ∙ sym (counts-long k);
-      few = λ slot. omega (arith, counts-few k slot, p.few, t.loop-test);
+      layout = rw (counts_long k) p.layout;
+      same = sums_long k ∙ sym (counts_long k);
+      few = λ slot. omega (arith, counts_few k slot, p.few, t.loop-test);
     }
 
 loop-again : tie.Need-loop-preserved invariant-loop decreases-loop
@@ -43,21 +43,21 @@ loop-again c =
     let keys = e.args.keys.now in
     let seed = e.args.seed in
     let i = t.before.loop.i in
-    let hashed : m.mix.result ≡ hashOf (get_or keys i 0) seed = m.mix.ensures in
-    count-step t.before.loop.invariant (omega (arith, t.loop-test.true, hashes-length seed keys))
-    (hashed ∙ sym (hashes-at seed keys i t.loop-test.true)) (slots_apart e.requires.layout _ (omega arith)) a.add-key.ensures
+    let hashed : m.mix.result ≡ hash_of (get_or keys i 0) seed = m.mix.ensures in
+    count_step t.before.loop.invariant (omega (arith, t.loop-test.true, hashes_length seed keys))
+    (hashed ∙ sym (hashes_at seed keys i t.loop-test.true)) (slots_apart e.requires.layout _ (omega arith)) a.add-key.ensures
 
 same_length : tie.Need-same-length invariant-loop decreases-loop
-same_length c = counts-long c.before.loop.invariant
+same_length c = counts_long c.before.loop.invariant
 
 same-length-2 : tie.Need-same-length-2 invariant-loop decreases-loop
 same-length-2 c =
-    sums-long c.before.loop.invariant ∙ sym (ap length c.before.before.before.before.before.requires.sums-clear ∙ length-replicate _ 0)
+    sums_long c.before.loop.invariant ∙ sym (ap length c.before.before.before.before.before.requires.sums_clear ∙ length-replicate _ 0)
 
 returns : tie.Need-returns invariant-loop decreases-loop
 returns c =
     let e = c.before.before.before.before.before in
-    count-end c.before.loop.invariant (omega (arith, c.loop-test.false, hashes-length e.args.seed e.args.keys.now))
+    count_end c.before.loop.invariant (omega (arith, c.loop-test.false, hashes_length e.args.seed e.args.keys.now))
 
 pub count-keys-spec : {M : Type 1} → statement M
 count-keys-spec =

@@ -5,7 +5,7 @@ use Rattle.peel.proofs.count.touch.Statement.{statement}
 use Rattle.peel.proofs.count.touch.Tie as tie
 
 returns : tie.Need-returns
-returns c = touch_is _ _ _ _ _ c.before.before.requires.two-bits
+returns c = touch_is _ _ _ _ _ c.before.before.requires.two_bits
 
 pub touch-spec : {M : Type 1} → statement M
 touch-spec =

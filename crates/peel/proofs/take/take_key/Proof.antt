@@ -2,7 +2,7 @@
 use borrow.Author.Rules.{rules}
 use Prim.Native.Nat.{◌^◌, ◌<◌}
 use native.Mathlib.Omega.{arith}
-use Rattle.peel.proofs.Releasing.{can-release-next, can-release-after, took}
+use Rattle.peel.proofs.Releasing.{can_release_next, can_release_after, took}
 use Rattle.peel.proofs.take.take_key.Statement.{statement}
 use Rattle.peel.proofs.take.take_key.Tie as tie
 
@@ -15,7 +15,7 @@ release-requires c κs =
     let q : tie.After-modulo3 = w.before in
     let s : tie.After-slots = q.before in
     let can = s.before.before.before.before.requires in
-    can-release-next can (small s) s.slots.ensures q.modulo3.ensures w.modulo32.ensures
+    can_release_next can (small s) s.slots.ensures q.modulo3.ensures w.modulo32.ensures
 
 release-requires-2 : tie.Need-release-requires-2
 release-requires-2 c κs =
@@ -24,7 +24,7 @@ release-requires-2 c κs =
     let q : tie.After-modulo3 = w.before in
     let s : tie.After-slots = q.before in
     let can = s.before.before.before.before.requires in
-    can-release-after can (small s) s.slots.ensures q.modulo3.ensures w.modulo32.ensures
+    can_release_after can (small s) s.slots.ensures q.modulo3.ensures w.modulo32.ensures
     r.release.auto.0 r.release.auto.1.0 r.release.auto.1.1.0 r.release.ensures
 
 returns : tie.Need-returns

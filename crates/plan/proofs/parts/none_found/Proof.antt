@@ -8,7 +8,7 @@ use lib.Seq.{length-take-le, length_front}
 use Rattle.answers.specs.declared.Refusal.TheVariants.{RepeatedKeys}
 use Rattle.plan.specs.declared.Plan.TheVariants.{Stuck, Refused}
 use Rattle.plan.specs.Plans.{zeros}
-use Rattle.plan.specs.Parts.{noneFound}
+use Rattle.plan.specs.Parts.{none_found}
 use borrow.Author.Rules.{rules}
 use Rattle.plan.proofs.parts.none_found.Statement.{statement}
 use Rattle.plan.proofs.parts.none_found.Tie as tie
@@ -24,7 +24,7 @@ repeated-requires c κs = let e : tie.Start = c.before.before.before.before in l
 
 -- what the test told decides
 decided : (r : tie.After-repeated) {told : Bool} → r.repeated.result ≡ told → let e = (entry r).args in
-    cond told (Refused RepeatedKeys) (Stuck e.slots) ≡ noneFound e.keys.now e.slots
+    cond told (Refused RepeatedKeys) (Stuck e.slots) ≡ none_found e.keys.now e.slots
 decided r is = ap (λ (b : Bool). cond b (Refused RepeatedKeys) (Stuck (entry r).args.slots)) (sym is ∙ r.repeated.ensures)
 
 -- sorting in it leaves the order as long as it was
