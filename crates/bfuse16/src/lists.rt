@@ -22,7 +22,7 @@ pub fn build(
     order: &mut [u64],
     starts: &mut [u32],
 ) -> BuildAnswer
-    ensures starts_after { outcome (paper result) (memory fingerprints.new lone.new counts.new sums.new positions.new order.new starts.new) ≡ build_of 16 keys.now limit (memory fingerprints.old lone.old counts.old sums.old positions.old order.old starts.old) }
+    ensures equation { outcome (paper result) (memory fingerprints.new lone.new counts.new sums.new positions.new order.new starts.new) ≡ build_of 16 keys.now limit (memory fingerprints.old lone.old counts.old sums.old positions.old order.old starts.old) }
     ensures demand3 { Demand3 16 keys.now 1 limit (memory fingerprints.old lone.old counts.old sums.old positions.old order.old starts.old) (paper result) fingerprints.new }
     ensures leaves { Leaves 16 keys.now (memory fingerprints.old lone.old counts.old sums.old positions.old order.old starts.old) (paper result) (memory fingerprints.new lone.new counts.new sums.new positions.new order.new starts.new) }
 {
@@ -45,7 +45,7 @@ pub fn attempt(
     order: &mut [u64],
     starts: &mut [u32],
 ) -> BuildAnswer
-    ensures starts_after { outcome (paper result) (memory fingerprints.new lone.new counts.new sums.new positions.new order.new starts.new) ≡ attempt_of 16 keys.now number (memory fingerprints.old lone.old counts.old sums.old positions.old order.old starts.old) }
+    ensures equation { outcome (paper result) (memory fingerprints.new lone.new counts.new sums.new positions.new order.new starts.new) ≡ attempt_of 16 keys.now number (memory fingerprints.old lone.old counts.old sums.old positions.old order.old starts.old) }
     ensures demand3 { Demand3 16 keys.now number number (memory fingerprints.old lone.old counts.old sums.old positions.old order.old starts.old) (paper result) fingerprints.new }
     ensures leaves { Leaves 16 keys.now (memory fingerprints.old lone.old counts.old sums.old positions.old order.old starts.old) (paper result) (memory fingerprints.new lone.new counts.new sums.new positions.new order.new starts.new) }
 {

@@ -24,7 +24,7 @@ pub fn build(
     order: &mut [u64],
     starts: &mut [u32],
 ) -> BuildAnswer
-    ensures starts_after { outcome (paper result) (memory fingerprints.new lone.new counts.new sums.new positions.new order.new starts.new) ≡ build_of 8 keys.now limit (memory fingerprints.old lone.old counts.old sums.old positions.old order.old starts.old) }
+    ensures equation { outcome (paper result) (memory fingerprints.new lone.new counts.new sums.new positions.new order.new starts.new) ≡ build_of 8 keys.now limit (memory fingerprints.old lone.old counts.old sums.old positions.old order.old starts.old) }
     ensures demand3 { Demand3 8 keys.now 1 limit (memory fingerprints.old lone.old counts.old sums.old positions.old order.old starts.old) (paper result) fingerprints.new }
     ensures leaves { Leaves 8 keys.now (memory fingerprints.old lone.old counts.old sums.old positions.old order.old starts.old) (paper result) (memory fingerprints.new lone.new counts.new sums.new positions.new order.new starts.new) }
 {
@@ -47,7 +47,7 @@ pub fn attempt(
     order: &mut [u64],
     starts: &mut [u32],
 ) -> BuildAnswer
-    ensures starts_after { outcome (paper result) (memory fingerprints.new lone.new counts.new sums.new positions.new order.new starts.new) ≡ attempt_of 8 keys.now number (memory fingerprints.old lone.old counts.old sums.old positions.old order.old starts.old) }
+    ensures equation { outcome (paper result) (memory fingerprints.new lone.new counts.new sums.new positions.new order.new starts.new) ≡ attempt_of 8 keys.now number (memory fingerprints.old lone.old counts.old sums.old positions.old order.old starts.old) }
     ensures demand3 { Demand3 8 keys.now number number (memory fingerprints.old lone.old counts.old sums.old positions.old order.old starts.old) (paper result) fingerprints.new }
     ensures leaves { Leaves 8 keys.now (memory fingerprints.old lone.old counts.old sums.old positions.old order.old starts.old) (paper result) (memory fingerprints.new lone.new counts.new sums.new positions.new order.new starts.new) }
 {
