@@ -1,4 +1,6 @@
 // Why a call refuses: document 01's twelve refusals, shared by all crates that answer with one.
+#![tactic(auto)]
+
 ghost use Rattle.std.specs.Prelude.{◌≡◌};
 ghost use Rattle.answers.specs.Answers.{number_of, code_of};
 

@@ -1,4 +1,6 @@
 // `BinaryFuse16` of the Rust: a list of keys is packed into fingerprints of 16 bits, and asked, on lent buffers.
+#![tactic(auto)]
+
 mod ask;
 mod lists;
 mod pack;

@@ -1,4 +1,6 @@
 // `BinaryFuse8` of the Rust: a list of keys is packed into fingerprints of 8 bits, on lent buffers.
+#![tactic(auto)]
+
 mod pack;
 
 ghost use Rattle.std.specs.Prelude.{◌≡◌};

@@ -1,4 +1,6 @@
 // The calls of a C program. A slice crosses as a pointer and a count of elements; each call answers with a number.
+#![tactic(auto)]
+
 ghost use Rattle.std.specs.Prelude.{◌≡◌};
 ghost use Rattle.fuse.specs.Query.{told, contains_bytes_of};
 ghost use Rattle.flush.specs.FlushKey.{flush_key_of};

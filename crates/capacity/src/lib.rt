@@ -1,4 +1,6 @@
 // The capacity of a filter, from a table of its value at each number of keys.
+#![tactic(auto)]
+
 ghost use Rattle.std.specs.Prelude.{◌≡◌, ◌≤◌};
 ghost use Rattle.capacity.specs.Capacity.{Capacity, max_keys};
 

@@ -1,4 +1,6 @@
 // The query of a list of 8-bit fingerprints: may this key be listed?
+#![tactic(auto)]
+
 ghost use Rattle.std.specs.Prelude.{◌≡◌};
 ghost use Rattle.fuse.specs.Query.{contains_of, contains_bytes_of, told};
 ghost use Rattle.query.specs.Paper.{paper};

@@ -1,4 +1,6 @@
 // The descriptor of a filter: its checks, and its twenty bytes.
+#![tactic(auto)]
+
 ghost use Rattle.std.specs.Prelude.{◌≡◌, ◌+◌, ◌≤◌, ◌<◌, length};
 ghost use Rattle.std.proofs.lemmas.List.Edits.{sets};
 ghost use Rattle.words.specs.Bytes.{number_at, bytes_of};

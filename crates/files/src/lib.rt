@@ -1,4 +1,6 @@
 // A whole file read.
+#![tactic(auto)]
+
 ghost use Rattle.io.specs.Counts.{IsPrefixLen};
 ghost use Rattle.std.specs.Prelude.{◌≤◌, length};
 

@@ -1,4 +1,6 @@
 // The key under which a flush is filed: which unit, which valve, and in which hour of the clock, from zero on or below it.
+#![tactic(auto)]
+
 ghost use Rattle.std.specs.Prelude.{◌≡◌, ◌<◌};
 ghost use Rattle.flush.specs.Floor.{modulo};
 ghost use Rattle.flush.specs.FlushKey.{hour_of, hours_held, key_of, flush_key_of, paper};

@@ -1,5 +1,7 @@
 // `flushlist` packs a text of due flushes into a list, and asks a list whether a flush is due. Results go to standard output and
 // what went wrong to standard error; a program of Rattle has no exit status.
+#![tactic(auto)]
+
 mod ask;
 mod held;
 mod messages;

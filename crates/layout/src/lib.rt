@@ -1,4 +1,6 @@
 // The layout of a filter for n keys: the segment length, the segment count and what follows from them.
+#![tactic(auto)]
+
 ghost use Rattle.std.specs.Prelude.{◌≡◌, ◌+◌, ◌*◌, ◌≤◌};
 ghost use Rattle.capacity.specs.Capacity.{max_keys, max_capacity};
 ghost use Rattle.layout.specs.Layout.{segment_length_of, count_of, layout_with, max_slots, max_starts, plain_of, layout_of, power_above, bucket_starts_of};

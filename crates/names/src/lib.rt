@@ -1,4 +1,6 @@
 // What the system knows of a name: whether a file is there, whether it is a plain one, and which one it is.
+#![tactic(auto)]
+
 ghost use Rattle.libc.specs.Io.{Ended};
 ghost use Rattle.std.specs.Prelude.{◌<◌, length};
 

@@ -1,4 +1,6 @@
 // One attempt of document 01, on lent buffers: from the keys to what was taken. It knows no width of a fingerprint.
+#![tactic(auto)]
+
 ghost use Rattle.std.specs.Prelude.{◌≡◌, length};
 ghost use Rattle.peel.specs.Buffers.{picks_in};
 ghost use Rattle.peel.specs.Requires.{CanRun};

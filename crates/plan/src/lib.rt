@@ -1,5 +1,7 @@
 // What a build of any width does before its fingerprints are written: checks 1 to 4, the search over the attempts, and the answer. What is
 // left to be done is a plan, which the filter of each width carries out.
+#![tactic(auto)]
+
 ghost use Rattle.std.specs.Prelude.{◌≤◌};
 ghost use Rattle.plan.specs.Plans.{scratch, Planned};
 

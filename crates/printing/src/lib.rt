@@ -1,5 +1,7 @@
 // Printing to standard output, for every program: texts, numbers, bytes, and refusals by their number; and to standard error. No contract
 // can say what is written, so these functions are only proved safe; what a program prints is held to its file `stdout`.
+#![tactic(auto)]
+
 use answers::Refusal;
 use libc::{STDERR_FILENO, STDOUT_FILENO};
 

@@ -1,4 +1,6 @@
 // What the queries of every width share: the answer, and the checks that come before a fingerprint is read.
+#![tactic(auto)]
+
 ghost use Rattle.std.specs.Prelude.{◌≡◌};
 ghost use Rattle.answers.specs.Answers.{number_of, refuses};
 ghost use Rattle.fuse.specs.Query.{told};

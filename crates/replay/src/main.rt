@@ -1,6 +1,8 @@
 // Holds `bfuse8::build` and `bfuse16::build` to the Rust's answers where there is no Rust. The lists of keys are made here again and
 // built at limit 1,000, and both answers are printed in the words of the Rust's list. That list is the file `stdout`: tools/make-replay
 // writes it from the Rust, and nothing ever writes it from what this program prints.
+#![tactic(auto)]
+
 mod answer;
 mod special;
 

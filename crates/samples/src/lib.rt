@@ -1,5 +1,7 @@
 // Lists of keys, and the digest of fingerprints, for the programs that run the filter and compare what they print. These functions
 // are proved safe; what they answer is compared, not promised.
+#![tactic(auto)]
+
 use arith::murmur3::mix;
 use arith::splitmix64::seed;
 use words::wrapping_mul;

@@ -1,4 +1,6 @@
 // A whole file written under a name, or none: by a new file that then takes the name.
+#![tactic(auto)]
+
 ghost use Rattle.io.specs.Counts.{IsPrefixLen};
 
 use libc::PATH_MAX;

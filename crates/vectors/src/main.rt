@@ -1,4 +1,5 @@
 // Published vectors of the two hashes, computed by our code and held to the file `stdout`, where they stand as published.
+#![tactic(auto)]
 
 // Prints the generator's next output, and answers its next state.
 fn splitmix64(state: u64) -> u64 {
