@@ -20,13 +20,7 @@ returns-then-hour-lt-FIRST_HOUR c =
     let read = hour_read c.args.seconds _ c.ranges.seconds c.hour_of-hour.type_inv c.hour_of-hour.ensures in
     sym (outside_refused _ _ hour (inl (below hour first_hour (rw read at c.if-hour-lt-FIRST_HOUR.true))))
 
-pub returns-then-hour-gt-LAST_HOUR : goal.returns-then-hour-gt-LAST_HOUR
-unfolding flush_key_of
-returns-then-hour-gt-LAST_HOUR c =
-    let hour = hour_of c.args.seconds in
-    let read = hour_read c.args.seconds _ c.ranges.seconds c.hour_of-hour.type_inv c.hour_of-hour.ensures in
-    sym (outside_refused _ _ hour (inr (below last_hour hour (rw read at c.if-hour-gt-LAST_HOUR.true))))
-
+-- before the answer that rests on the same test: of a later last hour this is the one that is false
 pub returns : goal.returns
 unfolding flush_key_of
 returns c =
@@ -38,3 +32,10 @@ returns c =
       not_late = not_below last_hour hour (rw read at c.if-hour-gt-LAST_HOUR.false);
     } in
     ap gives (c.key.ensures ∙ ap (key_of c.args.unit c.args.valve) held) ∙ sym (good_given _ _ hour good)
+
+pub returns-then-hour-gt-LAST_HOUR : goal.returns-then-hour-gt-LAST_HOUR
+unfolding flush_key_of
+returns-then-hour-gt-LAST_HOUR c =
+    let hour = hour_of c.args.seconds in
+    let read = hour_read c.args.seconds _ c.ranges.seconds c.hour_of-hour.type_inv c.hour_of-hour.ensures in
+    sym (outside_refused _ _ hour (inr (below last_hour hour (rw read at c.if-hour-gt-LAST_HOUR.true))))
