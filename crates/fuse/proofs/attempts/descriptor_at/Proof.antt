@@ -3,7 +3,7 @@ use mathlib.Core.Path.{ap, ap₂}
 use native.Mathlib.Omega.{arith}
 use borrow.Author.Rules.{rules}
 use Rattle.layout.specs.declared.Layout.{Layout}
-use Rattle.layout.specs.Fits.{layout_fits, length_from_four}
+use Rattle.layout.proofs.Fits.{layout_fits, length_from_four}
 use Rattle.fuse.specs.Attempts.{describe, descriptor_at}
 use Rattle.fuse.proofs.attempts.descriptor_at.Statement.{statement}
 use Rattle.fuse.proofs.attempts.descriptor_at.Tie as tie
