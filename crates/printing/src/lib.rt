@@ -3,8 +3,7 @@
 #![tactic(auto)]
 
 use answers::Refusal;
-use std::fmt;
-use std::io;
+use std::{fmt, io};
 
 pub fn text(rt: &impl Print, bytes: &[u8]) -> io::Result<()> {
     rt.write_all(bytes)
