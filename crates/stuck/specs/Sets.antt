@@ -35,17 +35,21 @@ size-without (false ∷ m) zero h = absurd h
 size-without (true ∷ m) (suc i) h = ap suc (size-without m i h)
 size-without (false ∷ m) (suc i) h = size-without m i h
 
+nobody_more : (m : KeySet) → Nobody m → Nobody (false ∷ m)
+nobody_more m n zero h = h
+nobody_more m n (suc j) h = n j h
+
 pub somebody? : (m : KeySet) → ((i : ℕ) × Has m i) ⊎ Nobody m
 somebody? [] = inr (λ i h. h)
 somebody? (true ∷ m) = inl (0, tt)
-somebody? (false ∷ m) = elim (somebody? m) [ inl w ↦ inl (suc w.0, w.1) | inr n ↦ inr (λ i. elim i [ zero ↦ λ h. h | suc j ↦ n j ]) ]
+somebody? (false ∷ m) = elim (somebody? m) [ inl w ↦ inl (suc w.0, w.1) | inr n ↦ inr (nobody_more m n) ]
 
 pub size_nobody : (m : KeySet) → Nobody m ↔ (size m ≡ 0)
 unfolding size
 size_nobody [] = (λ n. refl, λ e i h. h)
 size_nobody (true ∷ m) = (λ n. absurd (n 0 tt), λ e. absurd (suc-ne-zero (size m) e))
 size_nobody (false ∷ m) =
-    (λ n. (size_nobody m).0 (λ i. n (suc i)), λ e i. elim i [ zero ↦ λ h. h | suc j ↦ (size_nobody m).1 e j ])
+    (λ n. (size_nobody m).0 (λ i. n (suc i)), λ e. nobody_more m ((size_nobody m).1 e))
 
 pub size_within : (a b : KeySet) → Within a b → size a ≤ size b
 unfolding size
