@@ -5,7 +5,7 @@ ghost use Rattle.std.specs.Prelude.{◌≡◌};
 ghost use Rattle.answers.specs.Answers.{number_of, code_of};
 
 // `number_of` has the paper's number of each, and when it is given.
-#[derive(Drop)]
+#[derive(Clone, Copy)]
 pub enum Refusal {
     TooManyKeys,
     AttemptOutOfRange,

@@ -1,2 +1,1 @@
-pub mod Stores
 pub mod Following

@@ -20,7 +20,7 @@ pub const LONGEST_SEGMENT: u32 = 262144;
 // The most fingerprints that a descriptor may speak of.
 pub const LONGEST: u32 = 0x7fff_ffff;
 
-#[derive(Drop)]
+#[derive(Clone, Copy)]
 pub struct Descriptor {
     pub seed: u64,
     pub segment_length: u32,

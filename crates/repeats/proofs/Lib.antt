@@ -1,4 +1,3 @@
 pub mod FromPlace
-pub mod Copied
 pub mod Exchanged
 pub mod Neighbours
