@@ -1,7 +1,6 @@
 pub mod Clocks
 pub mod Cutting
 pub mod Digits
-pub mod Minus
 pub mod NextWords
 pub mod Numbers
 pub mod Said

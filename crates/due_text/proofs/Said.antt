@@ -5,10 +5,8 @@ use mathlib.Core.Bool.{Bool, true, false, cond}
 use mathlib.Core.List.{List, [], ◌∷◌}
 use native.Mathlib.Nat.{zero-add}
 use lib.ListN.{length, take, drop}
-use lib.Seq.{take-length}
 use lib.Dec.{eqb}
 use borrow.Author.Tests.{eq-eqb, ne_eqb}
-use Rattle.bytes.specs.Bytes.{index_of, index_after, slice}
 use Rattle.due_text.specs.Cut.{before_comment, words_of}
 use Rattle.due_text.specs.Runs.{run, NextWord}
 use Rattle.due_text.specs.Line.{said_by, plain_of, due_of}
@@ -43,27 +41,16 @@ module _ {line : List ℕ} {s1 e1 : ℕ} (w1 : NextWord line 0 s1 e1) where
         pub four_words : (s4 ≡ e4 → ⊥) → Bad WordCount ≡ said_by (words_of line)
         four_words e = rw (one_more w1 f1, one_more w2 f2, one_more w3 f3, one_more w4 e)
 
--- `find` looks for one byte
-pub index_run : (byte : ℕ) (text : List ℕ) → index_of byte text ≡ run (λ (b : ℕ). eqb b byte) text
-unfolding index_of index_after run
-index_run byte [] = refl
-index_run byte (first ∷ rest) = by (eqb first byte) (index_run byte rest)
-  where
-    by : (b : Bool) → index_of byte rest ≡ run (λ (x : ℕ). eqb x byte) rest
-        → index_after b (index_of byte rest) ≡ cond b 0 (suc (run (λ (x : ℕ). eqb x byte) rest))
-    by true e = refl
-    by false e = ap suc e
-
-first_comment : (text : List ℕ) → take (index_of 35 text) text ≡ before_comment text
-unfolding index_of index_after before_comment
+-- the comment begins at the first `#`
+first_comment : (text : List ℕ) → take (run (λ (b : ℕ). eqb b 35) text) text ≡ before_comment text
+unfolding run before_comment
 first_comment [] = refl
 first_comment (first ∷ rest) = by (eqb first 35) (first_comment rest)
   where
-    by : (b : Bool) → take (index_of 35 rest) rest ≡ before_comment rest
-        → take (index_after b (index_of 35 rest)) (first ∷ rest) ≡ cond b [] (first ∷ before_comment rest)
+    by : (b : Bool) → take (run (λ (x : ℕ). eqb x 35) rest) rest ≡ before_comment rest
+        → take (cond b 0 (suc (run (λ (x : ℕ). eqb x 35) rest))) (first ∷ rest) ≡ cond b [] (first ∷ before_comment rest)
     by true e = refl
     by false e = ap (λ (more : List ℕ). first ∷ more) e
 
-pub up_to_comment : (text : List ℕ) {end : ℕ} → end ≡ 0 + index_of 35 (slice 0 (length text) text) → take end text ≡ before_comment text
-unfolding slice
-up_to_comment text e = rw (e, zero-add, take-length text) (first_comment text)
+pub up_to_comment : (text : List ℕ) {end : ℕ} → end ≡ 0 + run (λ (b : ℕ). eqb b 35) text → take end text ≡ before_comment text
+up_to_comment text e = rw (e, zero-add) (first_comment text)
