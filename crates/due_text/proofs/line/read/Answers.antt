@@ -2,7 +2,7 @@
 use Rattle.std.proofs.Common.{◌∙◌, ap, List, ℕ}
 use Rattle.due_text.specs.Cut.{words_of}
 use Rattle.due_text.specs.Line.{said_by, line_of}
-use Rattle.due_text.proofs.Said.{up_to_comment}
+use Rattle.due_text.proofs.Comment.{up_to_comment}
 use Rattle.due_text.proofs.line.read.Goals as goal
 
 pub returns : goal.returns
