@@ -9,6 +9,16 @@ more some = omega arith
 pub loop-top-init : goal.loop-top-init
 loop-top-init c = turn_start c.requires
 
+pub loop-top-preserved-then-packed-eq1 : goal.loop-top-preserved-then-packed-eq1
+loop-top-preserved-then-packed-eq1 c =
+    turn_take c.loop-top.invariant (more c.loop-top-test.true) c.if-packed-eq1.true c.take_key-top.auto.lone c.take_key-top.ensures
+
+pub loop-top-preserved : goal.loop-top-preserved
+loop-top-preserved c = turn_skip c.loop-top.invariant (more c.loop-top-test.true) c.if-packed-eq1.false
+
+pub returns : goal.returns
+returns c = turn_end c.loop-top.invariant (omega arith)
+
 pub bounds-counts-i : goal.bounds-counts-i
 bounds-counts-i c = omega (arith, turn_popped c.loop-top.invariant (more c.loop-top-test.true))
 
@@ -31,13 +41,3 @@ overflow_add-taken c =
 
 pub take_key-top-requires : goal.take_key-top-requires
 take_key-top-requires c = turn_can_take c.loop-top.invariant (more c.loop-top-test.true) c.if-packed-eq1.true
-
-pub loop-top-preserved-then-packed-eq1 : goal.loop-top-preserved-then-packed-eq1
-loop-top-preserved-then-packed-eq1 c =
-    turn_take c.loop-top.invariant (more c.loop-top-test.true) c.if-packed-eq1.true c.take_key-top.auto.lone c.take_key-top.ensures
-
-pub loop-top-preserved : goal.loop-top-preserved
-loop-top-preserved c = turn_skip c.loop-top.invariant (more c.loop-top-test.true) c.if-packed-eq1.false
-
-pub returns : goal.returns
-returns c = turn_end c.loop-top.invariant (omega arith)
