@@ -1,11 +1,10 @@
 // What the system knows of a name: whether a file is there, whether it is a plain one, and which one it is.
 #![tactic(auto)]
 
-use std::fs;
 use std::fs::Metadata;
-use std::io;
 use std::os::unix::fs::MetadataExt;
 use std::rt::Files;
+use std::{fs, io};
 
 #[derive(Clone, Copy)]
 pub struct Seen {
