@@ -10,7 +10,8 @@ use Rattle.layout.specs.Rows.{Row, laid, rows}
 use Rattle.answers.specs.Answers.{Answer, refuses, gives}
 use Rattle.flush.specs.FlushKey.{hour_of, key_at_hour, flush_key_of}
 use Rattle.stuck.specs.Stuck.{Slots, every_key, Stuck, NoneStuck}
-use Rattle.stuck.specs.Cases.{at, C10_holds, C11_holds, C12_holds}
+use Rattle.stuck.specs.Cases.{at}
+use Rattle.stuck.proofs.Cases.{C10_holds, C11_holds, C12_holds}
 
 -- what is asked of the definitions, and the paper's answer
 pub data Case : Type 0 where

@@ -10,7 +10,7 @@ use Rattle.layout.specs.Layout.{slot_count_of}
 use Rattle.repeats.specs.Repeats.{repeats?, Twice}
 use Rattle.repeats.specs.Laws.{repeats_iff}
 use Rattle.stuck.specs.FirstFree.{First, AllStuck}
-use Rattle.stuck.specs.FirstOrAll.{first_same, first_not_all}
+use Rattle.stuck.proofs.FirstOrAll.{first_same, first_not_all}
 use Rattle.fuse.specs.Attempts.{descriptor_at, slots_at, free, fingerprints_at}
 use Rattle.fuse.specs.Memory.{Memory, checked}
 use Rattle.fuse.specs.Checked.{up_to_four, passed}

@@ -15,7 +15,7 @@ use Rattle.descriptor.specs.Descriptor.{check_of}
 use Rattle.descriptor.specs.Accepted as descriptor
 use Rattle.stuck.specs.Stuck.{NoneStuck, SomeStuck}
 use Rattle.stuck.specs.Survives.{not_both}
-use Rattle.stuck.specs.EqualSlots.{equal_keys_stuck}
+use Rattle.stuck.proofs.EqualSlots.{equal_keys_stuck}
 use Rattle.peel.specs.Segments.{slots_in, hashes_of}
 use Rattle.peel.specs.Requires.{Segmented}
 use Rattle.peel.specs.SlotsApart.{hashes_length, hashes_at}

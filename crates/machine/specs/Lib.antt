@@ -1,11 +1,9 @@
 pub mod Machine
-pub mod ByHand
 pub mod Order
 pub mod Share
 pub mod Known
 pub mod KnownOf
 pub mod Stack
-pub mod Take
 pub mod Work
 pub mod Standing
 pub mod Start
@@ -13,4 +11,3 @@ pub mod CompleteRun
 pub mod Picks
 pub mod SumsByKey
 pub mod SumsBounded
-pub mod Loop

@@ -1,12 +1,11 @@
--- How long the machine can go on: slots stacked plus slots touched twice or more. A release keeps that number and a pop lowers it by one, so
--- the stack never has more slots than there are, and as many turns as slots are enough. Assumes nothing.
+-- How long the machine can go on: slots stacked plus slots touched twice or more. A release keeps that number (proofs/Work) and a pop lowers
+-- it by one, so the stack never has more slots than there are, and as many turns as slots are enough. Assumes nothing.
 use Rattle.std.specs.Prelude.{◌≡◌, refl, ◌≢◌, Bool, true, false, List, [], ◌∷◌, ℕ, zero, suc, ◌+◌, ◌-◌, ◌≤◌, ◌<◌, length, get_or, T, eqb, ltb}
-use Rattle.std.proofs.Common.{◌∙◌, arith, eqb→eq, ltb→lt}
+use Rattle.std.proofs.Common.{arith, eqb→eq, ltb→lt}
 use Rattle.std.proofs.Math.Decide.{ℕ_discrete, dec_le}
 use Rattle.std.proofs.Math.Facts.{yes_ltb}
 use Rattle.stuck.specs.Total.{bit, bit_yes, bit_no}
-use Rattle.stuck.specs.Stuck.{Slots, slot_at, next}
-use Rattle.machine.specs.Machine.{State, change, change_at, push_if, scan, release, take_key}
+use Rattle.machine.specs.Machine.{State, change, push_if, scan}
 use Rattle.machine.specs.Stack.{push_length}
 
 -- how many slots are touched twice or more
@@ -40,14 +39,6 @@ unfolding many change
 many-change s [] = refl
 many-change zero (c ∷ l) = omega (arith, fall c)
 many-change (suc s) (c ∷ l) = omega (arith, many-change s l)
-
-pub release-work : (h q s : ℕ) (st : State) → work (release h q s st) ≡ work st
-unfolding release change_at
-release-work h q s st = omega (arith, push_length s st.stack (eqb (get_or st.sums.counts s 0) 2), many-change s st.sums.counts)
-
-pub take-work : (t : Slots) (h p : ℕ) (st : State) → work (take_key t h p st) ≡ work st
-unfolding take_key
-take-work t h p st = release-work h (next (next p)) (slot_at t (next (next p))) _ ∙ release-work h (next p) (slot_at t (next p)) st
 
 -- ---- the scan
 

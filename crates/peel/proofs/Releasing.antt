@@ -13,7 +13,7 @@ use Rattle.stuck.specs.Stuck.{Slots, slot_at, next}
 use Rattle.stuck.specs.Ring.{Apart, slot_below, apart_from}
 use Rattle.machine.specs.Machine.{Sums, State, change, change_at, push_if, release, take_key}
 use Rattle.machine.specs.Known.{Known}
-use Rattle.machine.specs.Take.{release_other}
+use Rattle.machine.proofs.Take.{release_other}
 use Rattle.machine.specs.Work.{many, many-change}
 use Rattle.peel.specs.Segments.{slots_in}
 use Rattle.peel.specs.SlotsApart.{slots_apart}

@@ -11,7 +11,7 @@ use Rattle.stuck.specs.Stuck.{Slots, Pick, pick}
 use Rattle.stuck.specs.Ring.{Apart}
 use Rattle.machine.specs.Machine.{Sums, State, sums_of, scan, picks_from, picks_of}
 use Rattle.machine.specs.Work.{many}
-use Rattle.machine.specs.Loop.{Going, going_start, going_skip, going_take, going_end, Took}
+use Rattle.machine.proofs.Loop.{Going, going_start, going_skip, going_take, going_end, Took}
 use Rattle.peel.specs.Segments.{slots_in}
 use Rattle.peel.specs.SlotsApart.{slots_apart}
 use Rattle.peel.specs.Buffers.{counts_in, sums_in, stack_of, picks_in}

@@ -17,7 +17,8 @@ use Rattle.reorder.specs.Reordered.{Reordered}
 use Rattle.reorder.specs.ReorderedLaws.{reordered_map}
 use Rattle.machine.specs.Machine.{stores}
 use Rattle.machine.specs.Order.{picks_reordered}
-use Rattle.machine.specs.Picks.{SmallPositions, picks_at_most, picks_small, picks_all, picks_not_all, picks_leave, picks_yes}
+use Rattle.machine.specs.Picks.{SmallPositions}
+use Rattle.machine.proofs.Picks.{picks_at_most, picks_small, picks_all, picks_not_all, picks_leave, picks_yes}
 use Rattle.peel.specs.Segments.{slots_in, hashes_of}
 use Rattle.peel.specs.SlotsApart.{slots_apart, hashes_length, hashes_at, hashes_small}
 use Rattle.peel.specs.Buffers.{picks_in}

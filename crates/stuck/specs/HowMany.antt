@@ -1,12 +1,10 @@
 -- How many keys stick: the size of the largest stuck set is one number, the number that any complete run leaves, and it is 0 exactly when
--- nothing is stuck. Assumes nothing.
+-- nothing is stuck. That there is such a number stands in proofs/HowMany. Assumes nothing.
 use Rattle.std.specs.Prelude.{◌≡◌, ◌↔◌, ◌⊎◌, List, ℕ, ◌-◌, length}
 use Rattle.std.proofs.Common.{sym, ◌∙◌, inl, inr, arith}
 use Rattle.stuck.specs.Stuck.{Slots, KeySet, Within, Nobody, size, every_key, Stuck, NoneStuck, Pick, Complete}
 use Rattle.stuck.specs.Sets.{size_nobody, size_within, size-every}
 use Rattle.stuck.specs.Survives.{left-size, left_stuck_or_nothing, left_largest}
-use Rattle.stuck.specs.Plain.{plain}
-use Rattle.stuck.specs.PlainComplete.{plain_complete}
 
 -- k keys stick: a set of k keys is stuck, or nothing, and contains every stuck set
 pub record Sticks (keys : List Slots) (k : ℕ) : Type 0 where
@@ -37,6 +35,3 @@ left_sticks {keys} {l} {r} c =
       stuck_or_nothing = left_stuck_or_nothing c;
       holds_all = left_largest c.run;
     }
-
-pub how_many : (keys : List Slots) → (k : ℕ) × Sticks keys k
-how_many keys = (length keys - length (plain keys).picks, left_sticks (plain_complete keys))

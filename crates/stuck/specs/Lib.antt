@@ -7,13 +7,9 @@ pub mod Touching
 pub mod Total
 pub mod TouchCount
 pub mod Plain
-pub mod PlainComplete
-pub mod RemovesAll
 pub mod HowMany
 pub mod FirstFree
-pub mod FirstOrAll
 pub mod KeyMap
-pub mod EqualSlots
 pub mod FillAnswers
 pub mod Cases
 pub mod FillLow

@@ -11,10 +11,12 @@ use Rattle.stuck.specs.Stuck.{Slots, KeySet, slot_at, without, every_key, Pick, 
 use Rattle.stuck.specs.Ring.{Apart}
 use Rattle.machine.specs.Machine.{Sums, sums_of, State, take_key, at_slot, pop, takes, scan, picks_from, picks_of}
 use Rattle.machine.specs.KnownOf.{Sole}
-use Rattle.machine.specs.Work.{many, take-work, scan-work}
-use Rattle.machine.specs.Standing.{Standing, dropped, its_key, hash_is, position_is, slots_touched, standing_after}
+use Rattle.machine.specs.Work.{many, scan-work}
+use Rattle.machine.proofs.Work.{take-work}
+use Rattle.machine.specs.Standing.{Standing}
+use Rattle.machine.proofs.Standing.{dropped, its_key, hash_is, position_is, slots_touched, standing_after}
 use Rattle.machine.specs.Start.{standing_start}
-use Rattle.machine.specs.Picks.{picks_at_most}
+use Rattle.machine.proofs.Picks.{picks_at_most}
 
 at_once : (slots : ℕ → Slots) (b : Bool) (s : ℕ) (st : State) (again : State → List Pick) → T b
     → let h = get_or st.sums.hashes s 0 in let p = get_or st.sums.positions s 0 in

@@ -4,7 +4,7 @@ use Rattle.std.proofs.Common.{sym, subst, inl, inr, arith}
 use Rattle.std.proofs.Math.Decide.{ℕ_discrete, dec_lt}
 use Rattle.stuck.specs.Stuck.{Slots, SomeStuck, NoneStuck}
 use Rattle.stuck.specs.Survives.{not_both}
-use Rattle.stuck.specs.RemovesAll.{stuck?}
+use Rattle.stuck.proofs.RemovesAll.{stuck?}
 use Rattle.stuck.specs.FirstFree.{First, AllStuck}
 
 module _ (at : ℕ → List Slots) (first last : ℕ) where

@@ -4,7 +4,7 @@ use Rattle.std.specs.Prelude.{◌↔◌, ◌⊎◌, List}
 use Rattle.stuck.specs.Stuck.{Slots, SomeStuck, NoneStuck, RemovesAll, EveryRunRemovesAll}
 use Rattle.stuck.specs.Survives.{none_stuck_iff, stuck_or_none}
 use Rattle.stuck.specs.Plain.{plain}
-use Rattle.stuck.specs.PlainComplete.{plain_complete}
+use Rattle.stuck.proofs.PlainComplete.{plain_complete}
 
 pub none_stuck_every : (keys : List Slots) → NoneStuck keys ↔ EveryRunRemovesAll keys
 none_stuck_every keys = (λ none r l c. (none_stuck_iff c).0 none, λ every. (none_stuck_iff (plain_complete keys)).1 (every _ _ (plain_complete keys)))
