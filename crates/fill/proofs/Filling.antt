@@ -1,15 +1,10 @@
 -- The loop that stores the keys, last taken first, turn by turn; any fingerprint of a hash, so any width. Assumes nothing.
-use mathlib.Core.Path.{◌≡◌, refl, sym, ap, ◌∙◌}
-use mathlib.Core.List.{List, [], ◌∷◌, ◌++◌}
-use Prim.Native.Nat.{ℕ, suc, ◌-◌, ◌≤◌, ◌<◌}
-use native.Mathlib.Omega.{arith}
-use lib.ListN.{length, get_or}
+use Rattle.std.specs.Prelude.{◌≡◌, refl, List, [], ◌∷◌, ◌++◌, ℕ, suc, ◌-◌, ◌≤◌, ◌<◌, get_or}
+use Rattle.std.proofs.Common.{sym, ap, ◌∙◌, arith}
 use Rattle.stuck.specs.Stuck.{Slots, Pick, pick}
 use Rattle.stuck.specs.Fill.{Entry, store, fill}
 use Rattle.machine.specs.Machine.{stores}
-use Rattle.peel.specs.Segments.{slots_in}
 use Rattle.peel.specs.Buffers.{picks_in}
-use Rattle.peel.specs.Requires.{Segmented, CanFill}
 
 module _ (slots : ℕ → Slots) (fingerprint : ℕ → ℕ) where
   -- a key by its hash, taken at a position
@@ -30,23 +25,18 @@ module _ (slots : ℕ → Slots) (fingerprint : ℕ → ℕ) where
   -- the keys before i, stored onto what there is, give what all n give
   pub record Filling (order positions : List ℕ) (n : ℕ) (before values : List ℕ) (i : ℕ) : Type 0 where
     pub within : i ≤ n
-    pub same : length values ≡ length before
     pub whole : stored order positions i values ≡ stored order positions n before
 
 module _ {slots : ℕ → Slots} {fingerprint : ℕ → ℕ} {order positions : List ℕ} {n : ℕ} {before : List ℕ} where
-  pub fill_start : Filling slots fingerprint order positions n before before n
-  fill_start = record { within = omega arith; same = refl; whole = refl }
-
   module _ {values : List ℕ} {i : ℕ} (k : Filling slots fingerprint order positions n before values i) where
-    pub fill_step : {values' : List ℕ} → 0 < i → length values' ≡ length values
+    pub fill_step : {values' : List ℕ} → 0 < i
         → values' ≡ store (entry_of slots fingerprint (get_or order (i - 1) 0) (get_or positions (i - 1) 0)) values
         → Filling slots fingerprint order positions n before values' (i - 1)
     unfolding picks_in
-    fill_step some same e =
+    fill_step some e =
         let more : suc (i - 1) ≡ i = omega arith in
         record {
           within = omega (arith, k.within);
-          same = same ∙ k.same;
           whole = ap (stored slots fingerprint order positions (i - 1)) e
               ∙ sym (fill_last slots fingerprint (picks_in (i - 1) order positions) (get_or order (i - 1) 0) (get_or positions (i - 1) 0) values)
               ∙ ap (λ (m : ℕ). stored slots fingerprint order positions m values) more
@@ -56,9 +46,3 @@ module _ {slots : ℕ → Slots} {fingerprint : ℕ → ℕ} {order positions : 
     pub fill_end : i ≤ 0 → values ≡ stored slots fingerprint order positions n before
     unfolding picks_in fill
     fill_end none = let first : 0 ≡ i = omega arith in ap (λ (m : ℕ). stored slots fingerprint order positions m values) first ∙ k.whole
-
--- the next key can be stored
-pub can_fill_one : {segment mask span : ℕ} {fingerprint : ℕ → ℕ} {order positions : List ℕ} {n : ℕ} {before values : List ℕ} {i : ℕ}
-    → CanFill segment mask span before order positions n → Filling (slots_in segment mask span) fingerprint order positions n before values i → 0 < i
-    → Segmented segment mask span (length values) × (get_or positions (i - 1) 0 < 3)
-can_fill_one {i = i} can k some = (rw k.same can.layout, can.positions_are (i - 1) (omega (arith, k.within)))

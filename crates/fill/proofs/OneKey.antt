@@ -1,11 +1,8 @@
 -- One key, stored where it was taken: its fingerprint, the three slots' and its own slot's once more; any fingerprint, so any width.
 -- Assumes nothing.
-use mathlib.Core.Path.{◌≡◌, sym, ap, ◌∙◌}
-use mathlib.Core.List.{List}
-use Prim.Native.Nat.{ℕ, zero, suc, ◌^◌, ◌<◌}
-use native.Mathlib.Omega.{arith}
-use lib.ListN.{get_or, set}
-use lib.Bits.{bit_xor, xor_comm}
+use Rattle.std.specs.Prelude.{◌≡◌, List, ℕ, zero, suc, ◌^◌, ◌<◌, get_or, set}
+use Rattle.std.specs.Int.Bits.{bit_xor, xor_comm}
+use Rattle.std.proofs.Common.{sym, ap, ◌∙◌, arith}
 use Rattle.words.specs.Xor.{xor_assoc, xor_cancel_right}
 use Rattle.arith.specs.Slots.{slots_of}
 use Rattle.stuck.specs.Stuck.{Slots, slot_at, next}
