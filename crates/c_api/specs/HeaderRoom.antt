@@ -8,7 +8,8 @@ use Rattle.answers.specs.Checks.{done}
 use Rattle.capacity.specs.Capacity.{max_keys}
 use Rattle.descriptor.specs.Descriptor.{descriptor_size}
 use Rattle.layout.specs.Layout.{max_slots, max_starts}
-use Rattle.layout.specs.Lengths.{Enough, lengths}
+use Rattle.layout.specs.Lengths.{Enough}
+use Rattle.layout.proofs.Lengths.{lengths}
 use Rattle.repeats.specs.Repeats.{Twice}
 use Rattle.stuck.specs.FirstFree.{First, AllStuck}
 use Rattle.fuse.specs.Attempts.{max_attempts, slots_at}

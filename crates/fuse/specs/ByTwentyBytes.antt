@@ -8,7 +8,7 @@ use Rattle.answers.specs.Checks.{Done, done, unless_refused}
 use Rattle.arith.specs.SeedBound.{seed_lt}
 use Rattle.capacity.specs.Capacity.{max_keys}
 use Rattle.layout.specs.Layout.{slot_count_of}
-use Rattle.layout.specs.Fits.{layout_fits}
+use Rattle.layout.proofs.Fits.{layout_fits}
 use Rattle.descriptor.specs.declared.Descriptor.{Descriptor}
 use Rattle.descriptor.specs.Descriptor.{descriptor_size, descriptor_of, encode}
 use Rattle.descriptor.specs.RoundTrip.{Sized, decode_encode}

@@ -145,7 +145,7 @@ module _ (w : ℕ) (keys : List ℕ) (first last : ℕ) (m : Memory) where
     -- so many attempts: the outcome of the definition, and with it the demand and what is left
     pub outcome_met : (count : ℕ) → last + 1 - first ≡ count → (o : Outcome Success Memory) → o ≡ search_of w keys last first (last + 1 - first) m
         → (o ≡ search_of w keys last first count m) × (Demand3 w keys first last m o.answer o.leaves.fingerprints × Leaves w keys m o.answer o.leaves)
-    outcome_met count many o e = (
+    outcome_met _ many o e = (
       e ∙ ap (λ (k : ℕ). search_of w keys last first k m) many,
       (demand_met o e, left_as_said w keys m last first (last + 1 - first) o e),
     )

@@ -8,7 +8,7 @@ use Rattle.std.proofs.lemmas.Bool.{eqb-false}
 use Rattle.std.proofs.Math.ListN.{length, get_or}
 use Rattle.capacity.specs.Capacity.{max_keys}
 use Rattle.layout.specs.Layout.{layout_of, slot_count_of}
-use Rattle.layout.specs.Fits.{layout_fits, same_slots}
+use Rattle.layout.proofs.Fits.{layout_fits, same_slots}
 use Rattle.answers.specs.Answers.{Answer, gives}
 use Rattle.answers.specs.Checks.{Done, done, ◌then◌}
 use Rattle.descriptor.specs.Descriptor.{check_of}

@@ -2,7 +2,7 @@
 -- narrowed, for every input; on any memory of the same lengths the answer is the same and the fingerprints are the wider ones modulo 2 ^ w.
 -- Assumes nothing.
 use Rattle.std.specs.Prelude.{◌≡◌, refl, List, [], ◌∷◌, map, ℕ, ◌≤◌, length, take}
-use Rattle.std.proofs.Common.{sym, ap, ap₂, ◌∙◌, arith, take_at}
+use Rattle.std.proofs.Common.{sym, ap, ap₂, ◌∙◌, take_at}
 use Rattle.words.specs.Low.{low}
 use Rattle.words.specs.LowLaws.{low-length, low-append, low-drop, low_zeros}
 use Rattle.answers.specs.Answers.{Answer, refuses, gives, Outcome, outcome}

@@ -6,7 +6,7 @@ use native.Mathlib.Omega.{arith}
 use lib.Dec.{lit≤}
 use lib.Pow.{pow_mono}
 use Rattle.layout.specs.Layout.{max_slots, power_above}
-use Rattle.layout.specs.BucketStarts.{power_above_lem}
+use Rattle.layout.proofs.BucketStarts.{power_above_lem}
 
 pub record Doubling (k p : ℕ) : Type 0 where
   pub exponent : ℕ

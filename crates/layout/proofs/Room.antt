@@ -8,7 +8,7 @@ use Rattle.capacity.specs.Capacity.{max_keys, Capacity}
 use Rattle.layout.specs.declared.Layout.{Layout}
 use Rattle.layout.specs.Layout.{max_slots, exponent_of, segment_length_of, count_of, layout_with, plain_of}
 use Rattle.layout.specs.Exponent.{exponent_to}
-use Rattle.layout.specs.Fits.{Fits, length_from_four}
+use Rattle.layout.proofs.Fits.{Fits, length_from_four}
 
 -- a layout of a length and a count has the room of a layout that it equals
 pub room : (l k : ℕ) {r : Layout} → layout_with l k ≡ r → Fits r → (1 ≤ l) × ((k + 2) * l ≤ max_slots)

@@ -4,7 +4,7 @@ use Rattle.std.proofs.Common.{◌≡◌, ap, sym, ◌∙◌, Bool, true, false, 
 use Rattle.std.proofs.Math.Nat.{max-eq_right}
 use Rattle.layout.specs.declared.Layout.{Layout}
 use Rattle.layout.specs.Layout.{plain_of, halved_of, halves, layout_of, power_above, bucket_starts_of}
-use Rattle.layout.specs.Fits.{Fits, layout_fits, count_small}
+use Rattle.layout.proofs.Fits.{Fits, layout_fits, count_small}
 use Rattle.layout.proofs.bucket_starts.Goals as goal
 
 pub power_above-requires : goal.power_above-requires

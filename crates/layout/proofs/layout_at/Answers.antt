@@ -2,7 +2,7 @@
 use Rattle.std.proofs.Math.Path.{subst⁻¹}
 use Rattle.std.proofs.Common.{◌∙◌, ap, ◌%◌, arith, le-ltb, lt-ltb, eq-eqb, ne_eqb}
 use Rattle.layout.specs.Layout.{halves, halved_of, layout_of}
-use Rattle.layout.specs.Fits.{Fits, plain_fits, halved_fits, count_small}
+use Rattle.layout.proofs.Fits.{Fits, plain_fits, halved_fits, count_small}
 use Rattle.layout.proofs.Room.{room}
 use Rattle.layout.proofs.layout_at.Goals as goal
 

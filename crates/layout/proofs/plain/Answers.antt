@@ -1,6 +1,6 @@
 -- `layout::plain` meets its contract: it is made of the parts that its definition names. Assumes nothing.
 use Rattle.std.proofs.Common.{◌∙◌}
-use Rattle.layout.specs.Fits.{plain_fits}
+use Rattle.layout.proofs.Fits.{plain_fits}
 use Rattle.layout.proofs.Room.{room, length-room, plain_parts}
 use Rattle.layout.proofs.plain.Goals as goal
 

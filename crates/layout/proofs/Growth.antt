@@ -6,7 +6,7 @@ use Rattle.std.proofs.Math.Nat.{le-max_left, le-max_right, max-le}
 use Rattle.capacity.specs.Capacity.{max_keys}
 use Rattle.capacity.proofs.Rising.{rising}
 use Rattle.layout.specs.Layout.{exponent_of, segments_of, count_of, plain_of, slot_count_of, halved_of, halves, layout_of, bucket_starts_of}
-use Rattle.layout.specs.BucketStarts.{starts_above}
+use Rattle.layout.proofs.BucketStarts.{starts_above}
 
 -- f does not fall from n to a larger size m of the same segment length, up to `max_keys`
 abbrev pub RisesInRange : (ℕ → ℕ) → Type 0

@@ -8,7 +8,7 @@ use Rattle.capacity.specs.Capacity.{max_keys, first}
 use Rattle.capacity.specs.First.{first_from, first_least, first_passes}
 use Rattle.layout.specs.declared.Layout.{Layout}
 use Rattle.layout.specs.Layout.{max_slots, layout_of, power_above, bucket_starts_of}
-use Rattle.layout.specs.Fits.{layout_fits, count_small, two_layouts}
+use Rattle.layout.proofs.Fits.{layout_fits, count_small, two_layouts}
 
 -- p is the smallest power of two, at least 2, that is not below k
 pub record PowerAbove (k p : ℕ) : Type 0 where
