@@ -1,13 +1,8 @@
 -- The seven tests of `suits` all pass exactly where checks 8 to 11 do. Assumes nothing.
-use mathlib.Core.Path.{◌≡◌, refl, sym, ap, ap₂, ◌∙◌}
-use mathlib.Core.Logic.{◌≢◌}
-use mathlib.Core.Bool.{Bool, true, false}
-use Prim.Native.Nat.{ℕ, ◌+◌, ◌-◌, ◌*◌, ◌^◌, ◌≤◌}
-use native.Mathlib.Omega.{arith}
-use native.Mathlib.Nat.{mod_self}
-use borrow.Author.Tests.{eq-eqb, eqb-true}
-use lib.Bits.{bit_and, bit_or, and_le_l, and_le_r, or_add_and}
-use lib.Dec.{eqb}
+use Rattle.std.proofs.Common.{◌≡◌, refl, sym, ap, ap₂, ◌∙◌, ◌≢◌, Bool, true, false, ℕ, ◌+◌, ◌-◌, ◌*◌, ◌^◌, ◌≤◌, eqb, bit_and, bit_or, arith, eq-eqb, eqb-true}
+use Rattle.std.proofs.Math.Nat.{mod_self}
+use Rattle.std.proofs.lemmas.Nat.{and_le_l, and_le_r}
+use Rattle.std.specs.Int.Bits.{or_add_and}
 use Rattle.answers.specs.Answers.{gives}
 use Rattle.answers.specs.Checks.{done}
 use Rattle.descriptor.specs.Descriptor.{last_exponent, longest, check_of}

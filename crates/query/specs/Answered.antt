@@ -1,8 +1,7 @@
 -- A query of fingerprints of any width, where its checks have passed: the sums of the slots have room, the slots are in range, and what is
 -- left over decides. Assumes nothing.
 use Rattle.std.specs.Prelude.{◌≡◌, ◌≢◌, Bool, true, false, List, ℕ, ◌+◌, ◌*◌, ◌^◌, ◌<◌, eqb, length, get_or}
-use Rattle.std.proofs.Common.{sym, ap}
-use borrow.Author.Tests.{eq-eqb, ne_eqb}
+use Rattle.std.proofs.Common.{sym, ap, eq-eqb, ne_eqb}
 use Rattle.std.specs.Int.Bits.{bit_xor}
 use Rattle.answers.specs.Answers.{gives}
 use Rattle.arith.specs.Murmur3.{hash_of}

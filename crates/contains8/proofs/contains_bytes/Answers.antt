@@ -1,0 +1,10 @@
+-- `contains8::contains_bytes` meets its contract: check 7 by the length, all else by the query of the record. Assumes nothing.
+use Rattle.std.proofs.Common.{◌∙◌}
+use Rattle.query.specs.ByBytes.{short, long}
+use Rattle.contains8.proofs.contains_bytes.Goals as goal
+
+pub returns-then-descriptor-lt-DESCRIPTOR_SIZE : goal.returns-then-descriptor-lt-DESCRIPTOR_SIZE
+returns-then-descriptor-lt-DESCRIPTOR_SIZE c = short 8 _ _ _ c.if-descriptor-lt-DESCRIPTOR_SIZE.true
+
+pub returns : goal.returns
+returns c = c.contains.ensures ∙ long 8 _ _ _ c.if-descriptor-lt-DESCRIPTOR_SIZE.false c.parse-d.ensures
