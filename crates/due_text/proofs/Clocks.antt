@@ -1,25 +1,15 @@
--- What the clock answers, by the number that was read and its sign, and by the word's first byte. Assumes nothing.
-use Prim.Native.Nat.{ℕ, suc, ◌-◌, ◌≤◌, ◌<◌}
-use mathlib.Core.Path.{◌≡◌, refl, ap}
-use mathlib.Core.Bool.{Bool, true, false}
+-- What the clock answers, by the word's first byte. Assumes nothing.
+use Prim.Native.Nat.{ℕ, suc, ◌-◌}
+use mathlib.Core.Path.{◌≡◌, refl}
+use mathlib.Core.Bool.{true, false}
 use mathlib.Core.List.{List, [], ◌∷◌}
 use native.Mathlib.Omega.{arith}
 use lib.ListN.{length, get_or, take, drop}
 use lib.Seq.{take_all}
-use lib.IntN.{ℤ}
-use borrow.Author.Tests.{le-leb, lt-leb, eq-eqb, ne_eqb}
+use borrow.Author.Tests.{eq-eqb, ne_eqb}
 use Rattle.due_text.specs.Decimal.{number_of}
-use Rattle.due_text.specs.Clock.{signed, most_seconds, clock_at, clock_of}
-use Rattle.due_text.specs.declared.decimal.Number.TheVariants as number
-use Rattle.due_text.specs.declared.clock.Clock.TheVariants.{At, NotDigits, TooLarge}
-
--- by the number of seconds
-module _ (negative : Bool) (n : ℕ) where
-  pub too_late : most_seconds negative < n → TooLarge ≡ clock_at negative (number.Value n)
-  too_late h = rw (lt-leb n (most_seconds negative) h)
-
-  pub in_time : n ≤ most_seconds negative → {seconds : ℤ} → seconds ≡ signed negative n → At seconds ≡ clock_at negative (number.Value n)
-  in_time h s = rw (le-leb n (most_seconds negative) h) (ap At s)
+use Rattle.due_text.specs.Clock.{clock_at, clock_of}
+use Rattle.due_text.specs.declared.clock.Clock.TheVariants.{NotDigits}
 
 pub empty_word : (word : List ℕ) → length word ≡ 0 → NotDigits ≡ clock_of word
 unfolding clock_of

@@ -1,8 +1,7 @@
 pub mod Clocks
+pub mod Comment
 pub mod Cutting
 pub mod Digits
-pub mod Minus
 pub mod NextWords
 pub mod Numbers
-pub mod Said
 pub mod SoFar

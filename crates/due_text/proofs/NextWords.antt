@@ -12,22 +12,6 @@ use Rattle.due_text.specs.Cut.{cut, blank?, without_empty, words_of}
 use Rattle.due_text.specs.Runs.{run, solid?, NextWord}
 use Rattle.due_text.proofs.Cutting.{run_within, first_piece}
 
--- the four blank bytes, tested one after the other
-module _ (byte : ℕ) where
-  pub space : byte ≡ 32 → true ≡ blank? byte
-  space e = rw (eq-eqb byte 32 e)
-
-  module _ (no-space : byte ≡ 32 → ⊥) where
-    pub tab : byte ≡ 9 → true ≡ blank? byte
-    tab e = rw (ne_eqb byte 32 no-space, eq-eqb byte 9 e)
-
-    module _ (no-tab : byte ≡ 9 → ⊥) where
-      pub carriage_return : byte ≡ 13 → true ≡ blank? byte
-      carriage_return e = rw (ne_eqb byte 32 no-space, ne_eqb byte 9 no-tab, eq-eqb byte 13 e)
-
-      pub only_newline : (byte ≡ 13 → ⊥) → eqb byte 10 ≡ blank? byte
-      only_newline no_return = rw (ne_eqb byte 32 no-space, ne_eqb byte 9 no-tab, ne_eqb byte 13 no_return)
-
 -- blank bytes in front of the words do not count
 past_blanks : (text : List ℕ) → words_of text ≡ words_of (drop (run solid? text) text)
 unfolding cut run

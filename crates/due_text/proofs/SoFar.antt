@@ -1,16 +1,15 @@
 -- The lines read so far, their keys in the first places of the room, and those to come. Assumes nothing.
 use Prim.Native.Nat.{ℕ, suc, ◌+◌, ◌-◌, ◌≤◌, ◌<◌, min}
-use mathlib.Core.Path.{◌≡◌, refl, sym, ap, ◌∙◌}
+use mathlib.Core.Path.{◌≡◌, sym, ap, ◌∙◌}
 use mathlib.Core.Bool.{true, false}
 use mathlib.Core.List.{List, [], ◌∷◌, ◌++◌}
 use native.Mathlib.Decide.{dec_le}
 use native.Mathlib.Numerals.{add-one}
 use native.Mathlib.Omega.{arith}
 use lib.ListN.{length, set, take, drop, length-set, length-drop, drop_of_length-le, take-append-drop}
-use lib.Seq.{length-take-le, take-length, drop-drop, take-suc-set, drop-set-lt}
+use lib.Seq.{length-take-le, drop-drop, take-suc-set, drop-set-lt}
 use borrow.Author.Tests.{eq-eqb, ne_eqb}
 use Rattle.answers.specs.declared.Refusal.TheVariants.{RepeatedKeys}
-use Rattle.bytes.specs.Bytes.{index_of, slice}
 use Rattle.repeats.specs.Repeats.{among?}
 use Rattle.due_text.specs.Cut.{cut, newline?, lines_of}
 use Rattle.due_text.specs.Runs.{run}
@@ -23,7 +22,6 @@ use Rattle.due_text.specs.declared.line.Line.TheVariants as line
 use Rattle.due_text.specs.declared.keys.KeysAnswer.{KeysAnswer}
 use Rattle.due_text.specs.declared.keys.KeysAnswer.TheVariants.{Read, Bad}
 use Rattle.due_text.proofs.Cutting.{first_piece}
-use Rattle.due_text.proofs.Said.{index_run}
 
 drop_min : (n : ℕ) (text : List ℕ) → drop (min n (length text)) text ≡ drop n text
 drop_min n text = by (dec_le n (length text))
@@ -35,13 +33,11 @@ drop_min n text = by (dec_le n (length text))
         drop_of_length-le text {i = min n (length text)} (omega arith) ∙ sym (drop_of_length-le text {i = n} far)
 
 -- the text cut at the next newline, which is passed
-next_line : (text : List ℕ) (at end : ℕ) → at < length text → end ≡ at + index_of 10 (slice at (length text) text)
+next_line : (text : List ℕ) (at end : ℕ) → at < length text → end ≡ at + run newline? (drop at text)
     → lines_of (drop at text) ≡ take (end - at) (drop at text) ∷ lines_of (drop (min (end + 1) (length text)) text)
-unfolding slice
 next_line text at end h e =
     let rest = drop at text in
     let k = run newline? rest in
-    let found : end ≡ at + k = e ∙ ap (λ (i : ℕ). at + i) (rw (take-length text) (index_run 10 rest)) in
     let long : end - at ≡ k = omega arith in
     let behind : at + suc k ≡ end + 1 = omega arith in
     rw (long, drop_min (end + 1) text, ← behind, ← drop-drop (suc k) at text) (first_piece newline? rest (omega (arith, length-drop at text)))
@@ -60,9 +56,6 @@ module _ (text room₀ : List ℕ) where
     pub untouched : drop count room ≡ drop count room₀
     pub to_come : read_lines (length room₀) (number + 1) (take count room) (lines_of (drop at text)) ≡ whole
 
-pub begins : (text room : List ℕ) → SoFar text room room 0 0 0
-begins text room = record { few = omega arith; within = omega arith; places = omega arith; same_room = refl; untouched = refl; to_come = refl }
-
 module _ {text room₀ room : List ℕ} {at number count : ℕ} (s : SoFar text room₀ room at number count) where
   -- what is answered now is answered of the whole text
   stops : {a : KeysAnswer} → keys_outcome a (take count room) ≡ whole text room₀ → keys_outcome a room ≡ keys_of text room₀
@@ -76,7 +69,7 @@ module _ {text room₀ room : List ℕ} {at number count : ℕ} (s : SoFar text 
   no_line_left h = stops (rw (drop_of_length-le text {i = at} h, length-take-le count room s.places) at s.to_come)
 
   -- one line more
-  module _ (h : at < length text) {end : ℕ} (e : end ≡ at + index_of 10 (slice at (length text) text)) where
+  module _ (h : at < length text) {end : ℕ} (e : end ≡ at + run newline? (drop at text)) where
     abbrev this : List ℕ
     this = take (end - at) (drop at text)
 

@@ -2,8 +2,8 @@
 ghost use Rattle.std.specs.Prelude.{◌≡◌, ◌+◌, ◌≤◌, min, length};
 ghost use Rattle.due_text.specs.Keys.{keys_outcome, keys_of};
 
-use crate::line;
 use crate::line::{Fault, Line};
+use crate::{line, scan};
 use answers::Refusal;
 use repeats::among;
 
@@ -23,7 +23,7 @@ pub fn read(text: &[u8], room: &mut [u64]) -> KeysAnswer
     let mut number = 0;
     let mut count = 0;
     while at < text.len() {
-        let end = bytes::scan::find(text, at, text.len(), b'\n');
+        let end = scan::find(text, at, b'\n');
         number += 1;
         let said = line::read(&text[at..end]);
         match said {

@@ -6,4 +6,5 @@ mod clock;
 pub mod decimal;
 pub mod keys;
 pub mod line;
+mod scan;
 mod word;

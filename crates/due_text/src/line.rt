@@ -7,7 +7,7 @@ ghost use Rattle.due_text.specs.Line.{line_of, said_by, plain_of, due_of, due_at
 
 use crate::clock::Clock;
 use crate::decimal::Number;
-use crate::{clock, decimal, word};
+use crate::{clock, decimal, scan, word};
 use answers::Refusal;
 use flush::KeyAnswer;
 
@@ -38,7 +38,7 @@ pub enum Line {
 pub fn read(text: &[u8]) -> Line
     ensures { result ≡ line_of text.now }
 {
-    let end = bytes::scan::find(text, 0, text.len(), b'#');
+    let end = scan::find(text, 0, b'#');
     said(&text[..end])
 }
 
