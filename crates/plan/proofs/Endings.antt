@@ -1,13 +1,8 @@
--- How a search ends on buffers of exactly the needed lengths, for fingerprints of any width: 5 where keys repeat, 6 where no attempt was free, and the
--- fingerprints filled in from what was taken. Assumes nothing.
-use mathlib.Core.Path.{◌≡◌, refl, sym, ap, ◌∙◌}
-use mathlib.Core.Bool.{Bool, true, false, cond}
-use mathlib.Core.List.{List}
-use Prim.Native.Nat.{ℕ, zero, suc, ◌+◌, ◌≤◌}
-use native.Mathlib.Omega.{arith}
-use lib.ListN.{length, drop, replicate, length-append, length-replicate}
+-- How a search that finds a free attempt ends on buffers of exactly the needed lengths, for fingerprints of any width: they are filled in from what was
+-- taken. Assumes nothing.
 use lib.Seq.{take_at, drop_at}
-use Rattle.answers.specs.declared.Refusal.TheVariants.{RepeatedKeys}
+use Rattle.std.proofs.Common.{◌≡◌, refl, sym, ap, ◌∙◌, Bool, true, false, List, ℕ, zero, suc, ◌+◌, ◌≤◌, arith, length, drop, replicate, length-append}
+use Rattle.std.proofs.lemmas.List.{length-replicate}
 use Rattle.descriptor.specs.declared.Descriptor.{Descriptor}
 use Rattle.layout.specs.Layout.{slot_count_of, bucket_starts_of}
 use Rattle.repeats.specs.Repeats.{repeats?}
@@ -17,10 +12,9 @@ use Rattle.fuse.specs.Memory.{Memory}
 use Rattle.fuse.specs.Build.{found_outcome, built_outcome}
 use Rattle.fuse.specs.FreeAttempts.{segmented, repeats_not_free}
 use Rattle.fuse.specs.Search.{Sought}
-use Rattle.plan.specs.declared.Plan.{Plan}
-use Rattle.plan.specs.declared.Plan.TheVariants.{Found, Stuck, Refused}
+use Rattle.plan.specs.declared.Plan.TheVariants.{Found}
 use Rattle.plan.specs.Plans.{scratch, zeros, fill_from, CanFillFrom}
-use Rattle.plan.specs.Parts.{CanPlan, none_found, Ended}
+use Rattle.plan.specs.Parts.{CanPlan, Ended}
 
 -- a number found is that of an attempt
 found_built : (w : ℕ) (keys : List ℕ) (found : ℕ) (m : Memory) → 1 ≤ found → found_outcome w keys found m ≡ built_outcome w keys found m
@@ -79,38 +73,6 @@ module _ {keys : List ℕ} {first last slots : ℕ} {lone counts sums positions 
 
   starts_are : starts' ≡ replicate (bucket_starts_of n) 0
   starts_are = cleared starts can.starts_length starts-cleared
-
-  -- ---- no attempt was free: what the last one took is cleared, too
-
-  module _ (none : found ≡ 0) {positions' order' : List ℕ} (positions-cleared : positions' ≡ zeros positions) (order-cleared : order' ≡ zeros order) where
-    ends_so : (repeated : Bool) → repeats? keys ≡ repeated
-        → Ended keys first last (cond repeated (Refused RepeatedKeys) (Stuck slots)) (scratch lone' counts' sums' positions' order' starts')
-    ends_so true e =
-        record {
-          can = λ m. tt;
-          ends = λ w m.
-              rw (e, lone_are, counts_are, sums_are, starts_are, cleared positions can.positions_length positions-cleared, cleared order can.order_length order-cleared);
-        }
-    ends_so false e =
-        record {
-          can = λ m. omega (arith, can.slots_are);
-          ends = λ w m.
-              rw (
-                e,
-                ← sought.is,
-                none,
-                can.slots_are,
-                lone_are,
-                counts_are,
-                sums_are,
-                starts_are,
-                cleared positions can.positions_length positions-cleared,
-                cleared order can.order_length order-cleared,
-              );
-        }
-
-    pub ends_none : {plan : Plan} → plan ≡ none_found keys slots → Ended keys first last plan (scratch lone' counts' sums' positions' order' starts')
-    ends_none is = rw is (ends_so (repeats? keys) refl)
 
   -- ---- an attempt was free
 

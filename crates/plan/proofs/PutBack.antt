@@ -1,11 +1,6 @@
 -- From buffers of exactly the needed lengths to all that was lent: the needed parts can be planned on, and put back before what lies beyond they are as
 -- planned; a refusal by checks 1 to 4 is a plan, too. Assumes nothing.
-use mathlib.Core.Path.{◌≡◌, refl, sym, ◌∙◌}
-use mathlib.Core.List.{List}
-use Prim.Native.Nat.{ℕ, ◌+◌, ◌-◌, ◌≤◌}
-use native.Mathlib.Omega.{arith}
-use lib.ListN.{length, take}
-use lib.Seq.{length-take-le}
+use Rattle.std.proofs.Common.{◌≡◌, refl, sym, ◌∙◌, List, ℕ, ◌+◌, ◌-◌, ◌≤◌, arith, length, take, length-take-le}
 use Rattle.answers.specs.declared.Refusal.{Refusal}
 use Rattle.answers.specs.Answers.{number_of, Answer, refuses, gives}
 use Rattle.answers.specs.Checks.{Done, done, unless_refused}

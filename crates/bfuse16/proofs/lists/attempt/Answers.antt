@@ -1,0 +1,11 @@
+-- `bfuse16::lists::attempt` meets its contract: the one attempt of that number; what is demanded and what is left follow from the outcome. Assumes nothing.
+use Rattle.std.proofs.Common.{arith}
+use Rattle.fuse.specs.Demanded.{outcome_met}
+use Rattle.plan.specs.CarriedOut.{as_planned}
+use Rattle.bfuse16.proofs.lists.attempt.Goals as goal
+
+pub returns : goal.returns
+returns c =
+    let planned = as_planned 16 _ c.make-plan.ensures c.carry_out.ensures in
+    let met = outcome_met 16 _ _ _ _ (λ some. (some, omega arith)) _ (omega arith) _ planned in
+    record { equation = met.0; demand3 = met.1.0; leaves = met.1.1 }
