@@ -1,8 +1,14 @@
 // A whole file read.
 #![tactic(auto)]
 
-ghost use Rattle.io.specs.Counts.{IsPrefixLen};
+ghost use Rattle.files.specs.Prefix.{IsPrefixLen};
 ghost use Rattle.std.specs.Prelude.{◌≤◌, length};
+
+use arrayvec::ArrayString;
+use std::fmt::Write;
+use std::io::Read;
+use std::rt::Files;
+use std::{fs, io};
 
 // How many bytes came, and whether they are all that there are.
 #[derive(Drop)]
@@ -12,36 +18,35 @@ pub struct Contents {
 }
 
 // A file's bytes at the start of the room, which has one place more than a file may fill. If they are not whole, it is said why.
-pub fn read(path: &[u8], room: &mut [u8]) -> Contents
+pub fn read<R: Files + Eprint>(rt: &R, path: &str, room: &mut [u8]) -> Contents
     ensures { IsPrefixLen result.count room.new }
 {
     // A pipe might keep it waiting for ever, and a device never end.
-    if names::special(names::led_to(path)) {
-        not_plain(path);
+    if names::special(names::led_to(rt, path)) {
+        not_plain(rt, path);
         return Contents {
             count: 0,
             whole: false,
         };
     }
-    let fd = os::open_read(path);
-    if fd < 0 {
-        os::fail(path);
-        return Contents {
-            count: 0,
-            whole: false,
-        };
+    match fs::open(rt, path) {
+        Ok(mut file) => fill(rt, &mut file, path, room),
+        Err(why) => {
+            failed(rt, path, why);
+            Contents {
+                count: 0,
+                whole: false,
+            }
+        }
     }
-    let contents = fill(fd, path, room);
-    libc::close(fd);
-    contents
 }
 
-fn fill(fd: i32, path: &[u8], room: &mut [u8]) -> Contents
+fn fill(rt: &impl Eprint, file: &mut impl Read, path: &str, room: &mut [u8]) -> Contents
     ensures { IsPrefixLen result.count room.new }
 {
     let mut count = 0;
     while count < room.len() {
-        let more = some(fd, path, &mut room[count..]);
+        let more = some(rt, file, path, &mut room[count..]);
         let n = more.count;
         if n == 0 {
             return Contents {
@@ -51,7 +56,7 @@ fn fill(fd: i32, path: &[u8], room: &mut [u8]) -> Contents
         }
         count += n;
     }
-    too_long(path, room.len());
+    too_long(rt, path, room.len());
     Contents {
         count: 0,
         whole: false,
@@ -59,31 +64,55 @@ fn fill(fd: i32, path: &[u8], room: &mut [u8]) -> Contents
 }
 
 // One read into the room: none where the file ends, or where the read failed.
-fn some(fd: i32, path: &[u8], room: &mut [u8]) -> Contents
+fn some(rt: &impl Eprint, file: &mut impl Read, path: &str, room: &mut [u8]) -> Contents
     ensures { result.count ≤ length room.new }
 {
-    let got = libc::read(fd, room);
-    if got < 0 {
-        os::fail(path);
-        return Contents {
-            count: 0,
-            whole: false,
-        };
-    }
-    Contents {
-        count: io::count(got, room),
-        whole: true,
+    match file.read(room) {
+        Ok(count) => Contents { count, whole: true },
+        Err(why) => {
+            failed(rt, path, why);
+            Contents {
+                count: 0,
+                whole: false,
+            }
+        }
     }
 }
 
-fn too_long(path: &[u8], size: usize) {
-    printing::error(path);
-    printing::error(b": not shorter than ");
-    printing::error_number(size as u64);
-    printing::error(b" bytes\n");
+fn too_long(rt: &impl Eprint, path: &str, size: usize) {
+    say(rt, path);
+    say(rt, ": not shorter than ");
+    say_number(rt, size as u64);
+    say(rt, " bytes\n");
 }
 
-pub fn not_plain(path: &[u8]) {
-    printing::error(path);
-    printing::error(b": not a plain file\n");
+pub fn not_plain(rt: &impl Eprint, path: &str) {
+    say(rt, path);
+    say(rt, ": not a plain file\n");
+}
+
+// What failed, and the system's own words for it, without its number.
+pub fn failed(rt: &impl Eprint, what: &str, why: io::Error) {
+    let mut words = ArrayString::<256>::new();
+    let _ = write!(words, "{why}");
+    say(rt, what);
+    say(rt, ": ");
+    say(rt, without_number(words.as_str()));
+    say(rt, "\n");
+}
+
+fn without_number(words: &str) -> &str {
+    match words.split_once(" (os error ") {
+        Some((plain, _)) => plain,
+        None => words,
+    }
+}
+
+// To standard error. What cannot be written there stays unsaid, and changes no answer.
+pub fn say(rt: &impl Eprint, words: &str) {
+    let _ = printing::error(rt, words.as_bytes());
+}
+
+pub fn say_number(rt: &impl Eprint, x: u64) {
+    let _ = printing::error_number(rt, x);
 }

@@ -2,27 +2,37 @@
 use crate::{held, messages};
 use contains8::ContainsAnswer;
 use due_text::line::Line;
+use std::io;
+use std::rt::Files;
 
 // A question is what a line of the text says.
-pub fn run(list: &[u8], question: Line) {
+pub fn run<R: Files + Print + Eprint>(rt: &R, list: &str, question: Line) -> io::Result<()> {
     match question {
-        Line::Blank => messages::usage(),
-        Line::Key(key) => ask_file(list, key),
-        Line::Bad(why) => messages::fault(why),
+        Line::Blank => {
+            messages::usage(rt);
+            Ok(())
+        }
+        Line::Key(key) => ask_file(rt, list, key),
+        Line::Bad(why) => {
+            messages::fault(rt, why);
+            Ok(())
+        }
     }
 }
 
-fn ask_file(list: &[u8], key: u64) {
+fn ask_file<R: Files + Print + Eprint>(rt: &R, list: &str, key: u64) -> io::Result<()> {
     let mut room = held::list_room();
-    let contents = files::read(list, &mut room);
+    let contents = files::read(rt, list, &mut room);
     if !contents.whole {
-        return;
+        return Ok(());
     }
     let n = contents.count;
-    let answer = held::asked(&room[..n], key);
-    match answer {
-        ContainsAnswer::Yes => printing::text(b"due\n"),
-        ContainsAnswer::No => printing::text(b"not due\n"),
-        ContainsAnswer::Refused(why) => messages::refused_list(list, why),
+    match held::asked(&room[..n], key) {
+        ContainsAnswer::Yes => printing::text(rt, b"due\n"),
+        ContainsAnswer::No => printing::text(rt, b"not due\n"),
+        ContainsAnswer::Refused(why) => {
+            messages::refused_list(rt, list, why);
+            Ok(())
+        }
     }
 }

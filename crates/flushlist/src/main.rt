@@ -1,5 +1,5 @@
 // `flushlist` packs a text of due flushes into a list, and asks a list whether a flush is due. Results go to standard output and
-// what went wrong to standard error; a program of Rattle has no exit status.
+// what went wrong to standard error. A refusal is no failure of the program: it ends with status 0.
 #![tactic(auto)]
 
 mod ask;
@@ -10,82 +10,101 @@ mod sample;
 
 use due_text::line;
 use due_text::line::Line;
+use std::io::ErrorKind;
+use std::random::RandomSource;
+use std::rt::Files;
+use std::{env, io};
 
 // A word that is longer counts as empty, and is no number.
 const WORD: usize = 32;
 
-fn main() {
-    let count = os::arg_count();
-    if count < 2 {
-        sample::run();
-        return;
-    }
-    let mut command = [0u8; 4];
-    let n = os::arg(1, &mut command);
-    if check::same(&command[..n], b"pack") {
-        if count == 4 {
-            pack_named();
-            return;
+// A longer name is none.
+const NAME: usize = 4096;
+
+fn main(rt: HostRuntime) -> io::Result<()> {
+    match env::args(&rt) {
+        Ok(words) => {
+            let words: Vec<String> = words.collect(rt.alloc())?;
+            run(&rt, &words)
         }
-    }
-    if check::same(&command[..n], b"ask") {
-        if count == 4 {
-            ask_key();
-            return;
+        Err(why) if why.kind() == ErrorKind::InvalidData => {
+            messages::no_text(&rt);
+            Ok(())
         }
-        if count == 6 {
-            ask_flush();
-            return;
-        }
+        Err(why) => Err(why),
     }
-    messages::usage();
+}
+
+// The first word is the program's own name.
+fn run<R: Files + Print + Eprint + RandomSource>(rt: &R, words: &[String]) -> io::Result<()> {
+    if words.len() < 2 {
+        return sample::run(rt);
+    }
+    let command = words[1].as_str();
+    if command == "pack" && words.len() == 4 {
+        return pack_named(rt, words[2].as_str(), words[3].as_str());
+    }
+    if command == "ask" && words.len() == 4 {
+        return ask_key(rt, words[2].as_str(), words[3].as_str());
+    }
+    if command == "ask" && words.len() == 6 {
+        let (unit, valve, seconds) = (words[3].as_str(), words[4].as_str(), words[5].as_str());
+        return ask_flush(rt, words[2].as_str(), unit, valve, seconds);
+    }
+    messages::usage(rt);
+    Ok(())
 }
 
 // flushlist pack TEXT LIST
-fn pack_named() {
-    let mut text = io::buffer();
-    let text_length = os::arg(2, &mut text);
-    if os::errno() != 0 {
-        os::fail(b"the text's name");
-        return;
+fn pack_named<R: Files + Print + Eprint + RandomSource>(
+    rt: &R,
+    text: &str,
+    list: &str,
+) -> io::Result<()> {
+    if text.len() > NAME {
+        messages::long_name(rt, "the text's name");
+        return Ok(());
     }
-    let mut list = io::buffer();
-    let list_length = os::arg(3, &mut list);
-    if os::errno() != 0 {
-        os::fail(b"the list's name");
-        return;
+    if list.len() > NAME {
+        messages::long_name(rt, "the list's name");
+        return Ok(());
     }
-    pack::run(&text[..text_length], &list[..list_length]);
+    pack::run(rt, text, list)?;
+    Ok(())
 }
 
 // flushlist ask LIST KEY
-fn ask_key() {
-    let mut key = [0u8; WORD];
-    let n = os::arg(3, &mut key);
-    ask_named(line::plain(&key[..n]));
+fn ask_key<R: Files + Print + Eprint>(rt: &R, list: &str, key: &str) -> io::Result<()> {
+    ask_named(rt, list, line::plain(short(key)))
 }
 
 // flushlist ask LIST UNIT VALVE SECONDS
-fn ask_flush() {
-    let mut unit = [0u8; WORD];
-    let unit_length = os::arg(3, &mut unit);
-    let mut valve = [0u8; WORD];
-    let valve_length = os::arg(4, &mut valve);
-    let mut seconds = [0u8; WORD];
-    let seconds_length = os::arg(5, &mut seconds);
-    ask_named(line::due(
-        &unit[..unit_length],
-        &valve[..valve_length],
-        &seconds[..seconds_length],
-    ));
+fn ask_flush<R: Files + Print + Eprint>(
+    rt: &R,
+    list: &str,
+    unit: &str,
+    valve: &str,
+    seconds: &str,
+) -> io::Result<()> {
+    ask_named(
+        rt,
+        list,
+        line::due(short(unit), short(valve), short(seconds)),
+    )
 }
 
-fn ask_named(question: Line) {
-    let mut list = io::buffer();
-    let n = os::arg(2, &mut list);
-    if os::errno() != 0 {
-        os::fail(b"the list's name");
-        return;
+fn ask_named<R: Files + Print + Eprint>(rt: &R, list: &str, question: Line) -> io::Result<()> {
+    if list.len() > NAME {
+        messages::long_name(rt, "the list's name");
+        return Ok(());
     }
-    ask::run(&list[..n], question);
+    ask::run(rt, list, question)
+}
+
+fn short(word: &str) -> &[u8] {
+    if word.len() > WORD {
+        b""
+    } else {
+        word.as_bytes()
+    }
 }

@@ -9,6 +9,9 @@ use descriptor::{DESCRIPTOR_SIZE, Descriptor, WriteAnswer};
 use due_text::keys;
 use due_text::keys::KeysAnswer;
 use layout::limits::{MAX_SLOTS, MAX_STARTS};
+use std::io;
+use std::random::RandomSource;
+use std::rt::Files;
 
 const MOST_KEYS: usize = MAX_KEYS as usize;
 
@@ -25,34 +28,46 @@ fn text_room() -> [u8; TEXT_ROOM]
 }
 
 // Whether the list was written, and read back as it should be; if not, it is said why.
-pub fn run(text: &[u8], list: &[u8]) -> bool {
-    if !saving::may_replace(text, list) {
-        return false;
+pub fn run<R: Files + Print + Eprint + RandomSource>(
+    rt: &R,
+    text: &str,
+    list: &str,
+) -> io::Result<bool> {
+    if !saving::may_replace(rt, text, list) {
+        return Ok(false);
     }
     let mut room = text_room();
-    let contents = files::read(text, &mut room);
+    let contents = files::read(rt, text, &mut room);
     if !contents.whole {
-        return false;
+        return Ok(false);
     }
     let n = contents.count;
-    pack_text(&room[..n], list)
+    pack_text(rt, &room[..n], list)
 }
 
-fn pack_text(text: &[u8], list: &[u8]) -> bool {
+fn pack_text<R: Files + Print + Eprint + RandomSource>(
+    rt: &R,
+    text: &[u8],
+    list: &str,
+) -> io::Result<bool> {
     let mut room = [0u64; MOST_KEYS];
     let answer = keys::read(text, &mut room);
     match answer {
-        KeysAnswer::Read(count) => pack_keys(&room[..count], list),
+        KeysAnswer::Read(count) => pack_keys(rt, &room[..count], list),
         KeysAnswer::Bad(number, why) => {
-            messages::bad_line(number, why);
-            false
+            messages::bad_line(rt, number, why);
+            Ok(false)
         }
     }
 }
 
-fn pack_keys(keys: &[u64], list: &[u8]) -> bool {
+fn pack_keys<R: Files + Print + Eprint + RandomSource>(
+    rt: &R,
+    keys: &[u64],
+    list: &str,
+) -> io::Result<bool> {
     if keys.len() == 0 {
-        messages::no_flush(list);
+        messages::no_flush(rt, list);
     }
     let mut fingerprints = [0u8; MAX_SLOTS];
     let mut lone = [0u32; MAX_SLOTS];
@@ -74,59 +89,64 @@ fn pack_keys(keys: &[u64], list: &[u8]) -> bool {
     );
     match answer {
         BuildAnswer::Built(d, slots, attempt) => {
-            let n = io::count(slots as isize, &fingerprints);
-            if !save(d, &fingerprints[..n], list) {
-                return false;
+            let n = fingerprints.len().min(slots as usize);
+            if !save(rt, d, &fingerprints[..n], list) {
+                return Ok(false);
             }
-            if !holds(list, keys) {
-                return false;
+            if !holds(rt, list, keys) {
+                return Ok(false);
             }
-            tell(list, keys.len(), n, attempt);
-            true
+            tell(rt, list, keys.len(), n, attempt)?;
+            Ok(true)
         }
         BuildAnswer::Refused(why) => {
-            messages::refused(why);
-            false
+            messages::refused(rt, why);
+            Ok(false)
         }
     }
 }
 
-fn save(d: Descriptor, fingerprints: &[u8], list: &[u8]) -> bool {
+fn save<R: Files + Eprint + RandomSource>(
+    rt: &R,
+    d: Descriptor,
+    fingerprints: &[u8],
+    list: &str,
+) -> bool {
     let mut bytes = [0u8; DESCRIPTOR_SIZE];
     let answer = descriptor::write(d, &mut bytes);
     match answer {
-        WriteAnswer::Done => saving::write(list, &bytes, fingerprints),
+        WriteAnswer::Done => saving::write(rt, list, &bytes, fingerprints),
         WriteAnswer::Refused(why) => {
-            messages::refused(why);
+            messages::refused(rt, why);
             false
         }
     }
 }
 
 // Whether the file that now has the name answers yes to every key. It may be another program's; then it is said.
-fn holds(list: &[u8], keys: &[u64]) -> bool {
+fn holds<R: Files + Eprint>(rt: &R, list: &str, keys: &[u64]) -> bool {
     let mut room = held::list_room();
-    let contents = files::read(list, &mut room);
+    let contents = files::read(rt, list, &mut room);
     if !contents.whole {
-        messages::not_read_back(list);
+        messages::not_read_back(rt, list);
         return false;
     }
     let n = contents.count;
     if !held::all(&room[..n], keys) {
-        messages::not_held(list);
+        messages::not_held(rt, list);
         return false;
     }
     true
 }
 
 // As `due.list: keys 13, fingerprints 48, attempt 1`.
-fn tell(list: &[u8], keys: usize, slots: usize, attempt: u32) {
-    printing::text(list);
-    printing::text(b": keys ");
-    printing::number(keys as u64);
-    printing::text(b", fingerprints ");
-    printing::number(slots as u64);
-    printing::text(b", attempt ");
-    printing::number(attempt as u64);
-    printing::line_end();
+fn tell(rt: &impl Print, list: &str, keys: usize, slots: usize, attempt: u32) -> io::Result<()> {
+    printing::text(rt, list.as_bytes())?;
+    printing::text(rt, b": keys ")?;
+    printing::number(rt, keys as u64)?;
+    printing::text(rt, b", fingerprints ")?;
+    printing::number(rt, slots as u64)?;
+    printing::text(rt, b", attempt ")?;
+    printing::number(rt, attempt as u64)?;
+    printing::line_end(rt)
 }

@@ -3,78 +3,92 @@
 #![tactic(auto)]
 
 use answers::Refusal;
-use libc::{STDERR_FILENO, STDOUT_FILENO};
+use std::{fmt, io};
 
-pub fn text(bytes: &[u8]) {
-    io::write_all(STDOUT_FILENO, bytes);
+pub fn text(rt: &impl Print, bytes: &[u8]) -> io::Result<()> {
+    rt.write_all(bytes)
 }
 
-pub fn line_end() {
-    text(b"\n");
+pub fn line_end(rt: &impl Print) -> io::Result<()> {
+    text(rt, b"\n")
 }
 
-pub fn number(x: u64) {
-    io::print_decimal(STDOUT_FILENO, x);
+pub fn number(rt: &impl Print, x: u64) -> io::Result<()> {
+    rt.print(x)
 }
 
-// In hexadecimal, with this many digits.
-pub fn hex(x: u64, digits: usize) {
-    io::print_hex(STDOUT_FILENO, x, digits);
+// In hexadecimal, with this many digits at least; with one, where this is 0, and never with more than 16.
+pub fn hex(rt: &impl Print, x: u64, digits: usize) -> io::Result<()> {
+    let width = digits.min(16);
+    print!(rt; "{x:0width$x}")
 }
 
 // A number, after a space.
-pub fn spaced(x: u64) {
-    text(b" ");
-    number(x);
+pub fn spaced(rt: &impl Print, x: u64) -> io::Result<()> {
+    text(rt, b" ")?;
+    number(rt, x)
 }
 
 // Numbers, each after a space.
-pub fn numbers(all: &[u64]) {
-    let mut i = 0;
-    while i < all.len() {
-        spaced(all[i]);
-        i += 1;
+pub fn numbers(rt: &impl Print, all: &[u64]) -> io::Result<()> {
+    for x in all {
+        spaced(rt, *x)?;
     }
+    Ok(())
 }
 
 // A name and a number, as ` L 4`.
-pub fn named(name: &[u8], x: u64) {
-    text(b" ");
-    text(name);
-    spaced(x);
+pub fn named(rt: &impl Print, name: &[u8], x: u64) -> io::Result<()> {
+    text(rt, b" ")?;
+    text(rt, name)?;
+    spaced(rt, x)
 }
 
-pub fn refusal(why: Refusal) {
-    text(b": refused");
-    spaced(answers::number(why) as u64);
+pub fn refusal(rt: &impl Print, why: Refusal) -> io::Result<()> {
+    text(rt, b": refused")?;
+    spaced(rt, answers::number(why) as u64)
 }
 
-pub fn refused(why: Refusal) {
-    refusal(why);
-    line_end();
+pub fn refused(rt: &impl Print, why: Refusal) -> io::Result<()> {
+    refusal(rt, why)?;
+    line_end(rt)
 }
 
 // A byte in hexadecimal, after a space.
-fn byte(x: u8) {
-    text(b" ");
-    hex(x as u64, 2);
+fn byte(rt: &impl Print, x: u8) -> io::Result<()> {
+    text(rt, b" ")?;
+    hex(rt, x as u64, 2)
 }
 
 // Bytes, each after a space, and the line's end.
-pub fn bytes(all: &[u8]) {
-    let mut i = 0;
-    while i < all.len() {
-        byte(all[i]);
-        i += 1;
+pub fn bytes(rt: &impl Print, all: &[u8]) -> io::Result<()> {
+    for x in all {
+        byte(rt, *x)?;
     }
-    line_end();
+    line_end(rt)
 }
 
 // What went wrong, to standard error.
-pub fn error(bytes: &[u8]) {
-    io::write_all(STDERR_FILENO, bytes);
+pub fn error(rt: &impl Eprint, bytes: &[u8]) -> io::Result<()> {
+    rt.eprint(Words(bytes))
 }
 
-pub fn error_number(x: u64) {
-    io::print_decimal(STDERR_FILENO, x);
+pub fn error_number(rt: &impl Eprint, x: u64) -> io::Result<()> {
+    rt.eprint(x)
+}
+
+// Text, as it is written to standard error: bytes that are not UTF-8 come as the sign for an unknown character.
+#[derive(Drop)]
+struct Words<'a>(&'a [u8]);
+
+impl fmt::Display for Words<'_> {
+    fn fmt<W: fmt::Write>(&self, f: &mut fmt::Formatter<W>) -> fmt::Result {
+        for chunk in self.0.utf8_chunks() {
+            f.write_str(chunk.valid())?;
+            if !chunk.invalid().is_empty() {
+                f.write_str("\u{fffd}")?;
+            }
+        }
+        Ok(())
+    }
 }

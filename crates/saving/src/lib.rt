@@ -1,26 +1,35 @@
 // A whole file written under a name, or none: by a new file that then takes the name.
 #![tactic(auto)]
 
-ghost use Rattle.io.specs.Counts.{IsPrefixLen};
+ghost use Rattle.std.specs.Prelude.{◌<◌, IfSome};
+ghost use Rattle.saving.specs.Beside.{IsBeside};
 
-use libc::PATH_MAX;
+use arrayvec::ArrayString;
+use std::fs::{OpenFile, OpenOptions};
+use std::io::Write;
+use std::random::RandomSource;
+use std::rt::Files;
+use std::{fs, io};
 
 // So many that two runs hardly ever draw the same; where they do, the second makes no file.
 const DIGITS: usize = 16;
+
+// The system takes no longer name.
+const PATH_MAX: usize = 4096;
 
 // For the longest name, `.part-` and the digits.
 const NAME_ROOM: usize = PATH_MAX + 6 + DIGITS;
 
 // Whether a new file may take the list's name: nobody has it, or a plain file that is not the text. If not, it is said why.
-pub fn may_replace(text: &[u8], list: &[u8]) -> bool {
-    let there = names::itself(list);
+pub fn may_replace<R: Files + Eprint>(rt: &R, text: &str, list: &str) -> bool {
+    let there = names::itself(rt, list);
     if names::special(there) {
-        files::not_plain(list);
+        files::not_plain(rt, list);
         return false;
     }
-    if names::same(there, names::led_to(text)) {
-        printing::error(list);
-        printing::error(b": text and list are the same file\n");
+    if names::same(there, names::led_to(rt, text)) {
+        files::say(rt, list);
+        files::say(rt, ": text and list are the same file\n");
         return false;
     }
     true
@@ -28,110 +37,90 @@ pub fn may_replace(text: &[u8], list: &[u8]) -> bool {
 
 // The two parts of a list under this name. They are written to a new file of another name, which then takes this one: so there is
 // never half a list under it, and no two runs write to one file.
-pub fn write(path: &[u8], head: &[u8], body: &[u8]) -> bool {
-    let mut room = [0u8; NAME_ROOM];
-    let n = beside(path, &mut room);
-    replace(path, &room[..n], head, body)
+pub fn write<R: Files + Eprint + RandomSource>(
+    rt: &R,
+    path: &str,
+    head: &[u8],
+    body: &[u8],
+) -> bool {
+    match beside(rt, path) {
+        Some(part) => replace(rt, path, part.as_str(), head, body),
+        None => false,
+    }
 }
 
 // The name of the file beside it: the path, `.part-` and random digits. If there is none, it is said why.
-fn beside(path: &[u8], room: &mut [u8]) -> usize
-    ensures { IsPrefixLen result room.new }
+fn beside<R: Eprint + RandomSource>(rt: &R, path: &str) -> Option<ArrayString<NAME_ROOM>>
+    ensures { IfSome result (λ name. IsBeside path.now name.bytes) }
 {
-    let ending = b".part-";
-    if room.len() < ending.len() + DIGITS {
-        long_name(path);
-        return 0;
+    if path.len() > PATH_MAX {
+        long_name(rt, path);
+        return None;
     }
-    if room.len() - ending.len() - DIGITS < path.len() {
-        long_name(path);
-        return 0;
+    let mut drawn = [0u8; DIGITS];
+    if let Err(why) = rt.fill_bytes(&mut drawn) {
+        files::failed(rt, "random digits", why);
+        return None;
     }
-    let n = bytes::copy(path, room);
-    let more = bytes::copy(ending, &mut room[n..]);
-    let from = n + more;
-    let end = from + DIGITS;
-    if !draw(&mut room[from..end]) {
-        os::fail(b"random digits");
-        return 0;
+    let mut name = ArrayString::<NAME_ROOM>::new();
+    name.push_str(path);
+    name.push_str(".part-");
+    for byte in &drawn {
+        name.push(digit(*byte));
     }
-    end
+    Some(name)
 }
 
-fn long_name(path: &[u8]) {
-    printing::error(path);
-    printing::error(b": name too long\n");
-}
-
-// Random hexadecimal digits, as many as the room takes.
-fn draw(room: &mut [u8]) -> bool {
-    if libc::getentropy(room) < 0 {
-        return false;
-    }
-    let mut i = 0;
-    while i < room.len() {
-        room[i] = digit(room[i]);
-        i += 1;
-    }
-    true
-}
-
-// Each of the sixteen stands for as many bytes as any other.
-fn digit(byte: u8) -> u8 {
+// Hexadecimal. Each of the sixteen stands for as many bytes as any other.
+fn digit(byte: u8) -> char
+    ensures { result < 128 }
+{
     let x = byte % 16;
-    if x < 10 { b'0' + x } else { b'a' - 10 + x }
+    char::from(if x < 10 { b'0' + x } else { b'a' - 10 + x })
 }
 
-// Nothing where there is no name. `os::create` takes no name that is there.
-fn replace(path: &[u8], part: &[u8], head: &[u8], body: &[u8]) -> bool {
-    if part.len() == 0 {
+fn long_name(rt: &impl Eprint, path: &str) {
+    files::say(rt, path);
+    files::say(rt, ": name too long\n");
+}
+
+// `create_new` takes no name that is there.
+fn replace<R: Files + Eprint>(rt: &R, path: &str, part: &str, head: &[u8], body: &[u8]) -> bool {
+    let made = OpenOptions::new()
+        .write(true)
+        .create_new(true)
+        .open(rt, part);
+    let file = match made {
+        Ok(file) => file,
+        Err(why) => {
+            files::failed(rt, part, why);
+            return false;
+        }
+    };
+    if let Err(why) = put(file, head, body) {
+        files::failed(rt, part, why);
+        remove(rt, part);
         return false;
     }
-    let fd = os::create(part);
-    if fd < 0 {
-        os::fail(part);
-        return false;
-    }
-    if !put(fd, part, head, body) {
-        remove(part);
-        return false;
-    }
-    if os::rename(part, path) < 0 {
-        os::fail(path);
-        remove(part);
+    if let Err(why) = fs::rename(rt, part, path) {
+        files::failed(rt, path, why);
+        remove(rt, part);
         return false;
     }
     true
 }
 
-fn remove(part: &[u8]) {
-    if os::unlink(part) < 0 {
-        os::fail(part);
-        printing::error(part);
-        printing::error(b": left behind, and no list\n");
+fn remove<R: Files + Eprint>(rt: &R, part: &str) {
+    if let Err(why) = fs::remove_file(rt, part) {
+        files::failed(rt, part, why);
+        files::say(rt, part);
+        files::say(rt, ": left behind, and no list\n");
     }
 }
 
 // Both parts into an open file, which is closed, once they have reached its device.
-fn put(fd: i32, part: &[u8], head: &[u8], body: &[u8]) -> bool {
-    if !written(fd, head, body) {
-        os::fail(part);
-        libc::close(fd);
-        return false;
-    }
-    if libc::close(fd) < 0 {
-        os::fail(part);
-        return false;
-    }
-    true
-}
-
-fn written(fd: i32, head: &[u8], body: &[u8]) -> bool {
-    if !io::write_all(fd, head) {
-        return false;
-    }
-    if !io::write_all(fd, body) {
-        return false;
-    }
-    libc::fsync(fd) == 0
+fn put<F: Write + OpenFile + Drop>(mut file: F, head: &[u8], body: &[u8]) -> io::Result<()> {
+    file.write_all(head)?;
+    file.write_all(body)?;
+    file.sync_all()
 }
