@@ -32,12 +32,12 @@ module _ (w : ℕ) (keys : List ℕ) (limit : ℕ) (memory : Memory) (room : Lis
       → (j before : ℕ) → j < length keys → key_told 0 (get_or keys j 0) ≡ told_key (flush_key_of unit valve listed) before
       → (code key old : ℕ) → key_told code key ≡ told_key (flush_key_of unit valve asked) old → Found w list code key
   unfolding flush_key_of
-  found built named unit valve hour listed asked Listed-in asked_in j before within made code key old e =
-      let same : hour_of asked ≡ hour_of listed = sym (only_floor asked seconds_per_hour hour asked_in) ∙ only_floor listed seconds_per_hour hour Listed-in in
+  found built named unit valve hour listed asked listed_in asked_in j before within made code key old e =
+      let same : hour_of asked ≡ hour_of listed = sym (only_floor asked seconds_per_hour hour asked_in) ∙ only_floor listed seconds_per_hour hour listed_in in
       let given : flush_key_of unit valve asked ≡ gives (get_or keys j 0)
       = ap (key_at_hour unit valve) same ∙ key_given (flush_key_of unit valve listed) before (get_or keys j 0) made in
-      let same-told : key_told code key ≡ key_told 0 (get_or keys j 0) = e ∙ ap (λ (a : Answer ℕ). told_key a old) given in
+      let same_told : key_told code key ≡ key_told 0 (get_or keys j 0) = e ∙ ap (λ (a : Answer ℕ). told_key a old) given in
       record {
-        has_key = ap (λ (t : KeyTold). t.code) same-told;
-        is_due = rw (ap (λ (t : KeyTold). t.key) same-told) ((reliable w keys limit memory room list built).every_key_yes named j within);
+        has_key = ap (λ (t : KeyTold). t.code) same_told;
+        is_due = rw (ap (λ (t : KeyTold). t.key) same_told) ((reliable w keys limit memory room list built).every_key_yes named j within);
       }
