@@ -6,7 +6,7 @@ use Rattle.due_text.proofs.keys.read.Goals.{in-Blank, in-Key+else-count-room+els
 
 pub returns-then-count-room : goal.returns-then-count-room
 returns-then-count-room c =
-    no_place c.loop-at.invariant c.loop-at-test.true c.find-end.ensures.place c.in-Key.ensures c.if-count-room.true
+    no_place c.loop-at.invariant c.loop-at-test.true c.find-end.ensures.place c.in-Key.ensures (omega arith)
 
 pub returns-then-among : goal.returns-then-among
 returns-then-among c =
