@@ -49,80 +49,54 @@ read_seed_and_scale() { # [--seed N] [--scale N]
 
 # ---- the kit
 
-# The words before an x86-64 program, so that it runs here: none on x86-64. find_kit sets them.
-emulator=()      # one that is linked statically
-program_words=() # one of the kit, which takes the kit's loader and C library
+# Whether a kit can be had here.
+has_kit() {
+  [ "$machine" = x86_64 ] && { [ -n "${RATTLE_HOME:-}" ] || command -v rt >/dev/null; }
+}
 
-# Sets kit, the folder of the kit, kit_tools, that of its compiler, and on aarch64 the words above: the kit has an emulator there.
-find_kit() {
-  local guide
-  case $machine in
-    x86_64 | aarch64) ;;
-    *) fail "this machine is $machine, and the Rattle kit is for x86_64 and aarch64 alone" ;;
-  esac
-  need rt "it is the command of the Rattle kit (README.md says which kit)"
-  guide=$(rt doc) || fail "the Rattle kit does not start: 'rt doc' failed"
-  kit=$(cd "$(dirname "$guide")/.." && pwd) || fail "the Rattle kit is not where 'rt doc' says: $guide"
-  # It may have been said from where the caller stands; rt is run at the top of the repository.
-  [ -z "${RATTLE_HOME:-}" ] || export RATTLE_HOME=$kit
-  kit_tools=$kit/on/$machine/toolchain
-  [ -x "$kit_tools/bin/clang" ] || fail "the Rattle kit has no compiler $kit_tools/bin/clang"
-  [ "$machine" = aarch64 ] || return 0
-  [ -x "$kit_tools/bin/qemu-x86_64" ] || fail "the Rattle kit has no emulator $kit_tools/bin/qemu-x86_64"
-  # What the caller's own emulators are told is not for this one.
-  unset "${!QEMU_@}"
-  emulator=("$kit_tools/bin/qemu-x86_64")
-  program_words=("${emulator[@]}" "$kit_tools/lib/ld-linux-x86-64.so.2" --library-path "$kit_tools/lib")
+# Sets kit_rt, the command of the kit, in full: it is run in the folder of a crate.
+find_kit() { # [WAY-OUT]
+  [ "$machine" = x86_64 ] || fail "this machine is $machine, and the Rattle kit is for x86_64 alone${1:+: $1}"
+  if [ -n "${RATTLE_HOME:-}" ]; then
+    kit_rt=$(realpath "$RATTLE_HOME/bin/rt") || fail "there is no Rattle kit in $RATTLE_HOME (setting RATTLE_HOME)"
+  else
+    need rt "it is the command of the Rattle kit (README.md says which kit)"
+    kit_rt=$(realpath "$(command -v rt)")
+  fi
+  "$kit_rt" doc >/dev/null || fail "the Rattle kit does not start: '$kit_rt doc' failed"
 }
 
 # ---- proving
 
-# Prints how many crates of the repository a crate stands on, itself counted.
-crates_below() { # CRATE
-  awk -v wanted="$1" '
-    function visit(name, each, count, k) {
-      if (!(name in needs) || name in seen) return
-      seen[name] = 1
-      total++
-      count = split(needs[name], each, " ")
-      for (k = 1; k <= count; k++) visit(each[k])
-    }
-    { sub(/#.*/, ""); split($0, part, ":"); gsub(/[ \t]/, "", part[1]) }
-    part[1] != "" { needs[part[1]] = part[2] }
-    END { visit(wanted); print total + 0 }' "$root/crates.txt"
-}
-
-# Reads what rt says, and shows each crate once it is proved: name, seconds, how many of how many. Those that have not changed are
-# counted in silence.
-show_proved() { # HOW-MANY
-  local line name seconds count=0 last=$SECONDS
+# Reads what rt says, and shows each crate once it is proved, with the seconds that it took. Of those that have not changed rt says nothing.
+show_proved() {
+  local line name='' last=$SECONDS
   while IFS= read -r line; do
-    if [[ $line =~ ^rt:\ [A-Za-z0-9_]+\ proved\ \(unchanged ]]; then
-      count=$((count + 1)) last=$SECONDS
-      continue
-    elif [[ $line =~ ^rt:\ ([A-Za-z0-9_]+)\ proved\ \(([0-9]+)\ s\)$ ]]; then
-      name=${BASH_REMATCH[1]} seconds=${BASH_REMATCH[2]}
-    elif [[ $line =~ ^rt:\ target/staticlib/lib([A-Za-z0-9_]+)\.a\ has\  ]]; then
-      name=${BASH_REMATCH[1]} seconds=$((SECONDS - last)) # rt gives no time for a crate that it makes an archive of
-    else
-      continue
+    if [[ $line =~ ^crate\ ([A-Za-z0-9_]+):\ modules\  ]]; then
+      name=${BASH_REMATCH[1]}
+    elif [[ -n $name && $line = logic=proved\ * ]]; then
+      echo "proved $name, $((SECONDS - last)) s" >&2
+      name='' last=$SECONDS
     fi
-    count=$((count + 1)) last=$SECONDS
-    echo "proved $name, $seconds s ($count of $1)" >&2
   done
 }
 
-# Runs rt at the top of the repository, one such run at a time, and shows each crate as it is proved. LOG keeps what rt says; it is shown
-# where rt fails, and the status is then 1.
+# Runs rt in the folder of CRATE, one such run at a time, and shows each crate as it is proved. LOG keeps what rt says; it is shown where rt
+# fails, and the status is then 1. `rt run` ends with the status of the program, which does not count here.
 prove() { # CRATE LOG RT-WORDS..
-  local total log=$2
-  total=$(crates_below "$1")
+  local folder=$root/crates/$1 log=$2
   shift 2
   (
-    # rt keeps one folder of results, and a second run there would read the first one's.
+    # rt itself lets a second run in the same folders wait, but says nothing of it.
     flock -w 5 9 || { echo "$(basename "$0"): waiting for another run that proves here" >&2 && flock 9; }
-    (cd "$root" && rt "$@") </dev/null 2>&1 | tee "$log" | show_proved "$total" || { cat "$log" >&2 && exit 1; }
+    (cd "$folder" && "$kit_rt" "$@") </dev/null 2>&1 | tee "$log" | show_proved || grep -q '^rt: running out/' "$log" ||
+      { cat "$log" >&2 && exit 1; }
   ) 9>"$root/target/lock"
+}
+
+# Proves and builds a program, which is then crates/CRATE/out/CRATE. rt can only build it and run it, so it runs with a word that it refuses.
+prove_program() { # CRATE LOG
+  prove "$1" "$2" run -- --build-only
 }
 
 # ---- the archive
@@ -179,7 +153,7 @@ take_archive() { # WORDS..
 choose_library() { # [x86_64|aarch64]
   if [ -z "${GP_LIB:-}" ]; then
     lib_machine=$(machine_named "${1:-x86_64}") || fail "there is no archive for '$1': it is made for x86_64 and aarch64"
-    find_kit
+    find_kit "set GP_LIB to an archive that was made there"
     return
   fi
   [ -f "$GP_LIB" ] || fail "there is no archive $GP_LIB (setting GP_LIB)"
@@ -206,18 +180,13 @@ cannot_cross() { # MACHINE WHAT WHERE-FROM
   fail "to run the archive for $1 on this $machine machine, $2 is missing: $3. Or without it: tools/$(basename "$0") --archive $machine"
 }
 
-# Sets run_words, the words before a program that is linked statically for MACHINE, so that it runs here. For the other machine they are an
-# emulator: on aarch64 the kit's; on x86-64, where the kit has none, Debian's.
+# Sets run_words, the words before a program that is linked statically for MACHINE, so that it runs here: for the other machine they are
+# Debian's emulator.
 run_for() { # MACHINE
   run_words=()
   [ "$1" != "$machine" ] || return 0
-  if [ "$1" = x86_64 ]; then
-    find_kit
-    run_words=("${emulator[@]}")
-  else
-    command -v qemu-aarch64-static >/dev/null || cannot_cross "$1" qemu-aarch64-static "Debian 12: apt-get install -y qemu-user-static"
-    run_words=(qemu-aarch64-static)
-  fi
+  command -v "qemu-$1-static" >/dev/null || cannot_cross "$1" "qemu-$1-static" "Debian 12: apt-get install -y qemu-user-static"
+  run_words=("qemu-$1-static")
 }
 
 # Debian's libm.a for x86-64 is a line of text that names its parts, and names them where they lie on an x86-64 machine. Where that of GCC is

@@ -1,13 +1,13 @@
 # shellcheck shell=bash
 # Read by tools/check-flushlist: two packs of one list at the same time, and packs that are killed, or whose list is replaced.
-# shellcheck disable=SC2154,SC2015,SC2034  # FLUSHLIST and program_words are set there, parts is read there; wrong does not return
+# shellcheck disable=SC2154,SC2015,SC2034  # FLUSHLIST is set there, parts is read there; wrong does not return
 
 # What a pack says where another list has its list's name.
 replaced="two.list: does not answer yes to every key of the text: another program wrote it, or its bytes changed; pack again"
 
 # begin TEXT LIST NAME: starts a pack, which writes to NAME.out and NAME.err, and sets pid
 begin() {
-  "${program_words[@]}" "$FLUSHLIST" pack "$1" "$2" >"$3.out" 2>"$3.err" &
+  "$FLUSHLIST" pack "$1" "$2" >"$3.out" 2>"$3.err" &
   pid=$!
 }
 

@@ -15,7 +15,7 @@ def read(path="crates.txt"):
             words = line.partition("#")[0]
             if words.strip():
                 name, _, needs = words.partition(":")
-                graph[name.strip()] = [need for need in needs.split() if need not in KIT]
+                graph[name.split()[0]] = [need for need in needs.split() if need not in KIT]
     unknown = sorted({need for needs in graph.values() for need in needs} - set(graph))
     if unknown:
         raise ValueError(f"{path} names crates that it does not have: {' '.join(unknown)}")

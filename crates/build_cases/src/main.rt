@@ -6,7 +6,9 @@
 mod attempts;
 mod builds;
 
-fn main() {
-    builds::run();
-    attempts::run();
+use std::io;
+
+fn main(rt: HostRuntime) -> io::Result<()> {
+    builds::run(&rt)?;
+    attempts::run(&rt)
 }

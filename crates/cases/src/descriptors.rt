@@ -1,5 +1,6 @@
 // The descriptor: checks 8 to 10 at their borders, 7 and the twenty bytes read and written.
 use descriptor::{CheckAnswer, Descriptor, ReadAnswer, WriteAnswer};
+use std::io;
 
 pub fn made(seed: u64, segment: u32, mask: u32, span: u32) -> Descriptor {
     Descriptor {
@@ -10,118 +11,118 @@ pub fn made(seed: u64, segment: u32, mask: u32, span: u32) -> Descriptor {
     }
 }
 
-pub fn fields(d: Descriptor) {
-    printing::named(b"L", d.segment_length as u64);
-    printing::named(b"mask", d.segment_length_mask as u64);
-    printing::named(b"count length", d.segment_count_length as u64);
+pub fn fields(rt: &impl Print, d: Descriptor) -> io::Result<()> {
+    printing::named(rt, b"L", d.segment_length as u64)?;
+    printing::named(rt, b"mask", d.segment_length_mask as u64)?;
+    printing::named(rt, b"count length", d.segment_count_length as u64)
 }
 
-fn check(segment: u32, mask: u32, span: u32) {
+fn check(rt: &impl Print, segment: u32, mask: u32, span: u32) -> io::Result<()> {
     let d = made(1, segment, mask, span);
-    printing::text(b"check");
-    fields(d);
+    printing::text(rt, b"check")?;
+    fields(rt, d)?;
     let answer = descriptor::check(d);
     match answer {
-        CheckAnswer::Good => printing::text(b": good\n"),
-        CheckAnswer::Refused(why) => printing::refused(why),
+        CheckAnswer::Good => printing::text(rt, b": good\n"),
+        CheckAnswer::Refused(why) => printing::refused(rt, why),
     }
 }
 
-fn read(bytes: &[u8]) {
-    printing::text(b"read");
-    printing::named(b"bytes", bytes.len() as u64);
+fn read(rt: &impl Print, bytes: &[u8]) -> io::Result<()> {
+    printing::text(rt, b"read")?;
+    printing::named(rt, b"bytes", bytes.len() as u64)?;
     let answer = descriptor::read(bytes);
     match answer {
         ReadAnswer::Good(d) => {
-            printing::text(b":");
-            printing::named(b"seed", d.seed);
-            fields(d);
-            printing::line_end();
+            printing::text(rt, b":")?;
+            printing::named(rt, b"seed", d.seed)?;
+            fields(rt, d)?;
+            printing::line_end(rt)
         }
-        ReadAnswer::Refused(why) => printing::refused(why),
+        ReadAnswer::Refused(why) => printing::refused(rt, why),
     }
 }
 
-fn write(d: Descriptor, room: &mut [u8]) {
-    printing::text(b"write into");
-    printing::bytes(&room[..]);
+fn write(rt: &impl Print, d: Descriptor, room: &mut [u8]) -> io::Result<()> {
+    printing::text(rt, b"write into")?;
+    printing::bytes(rt, &room[..])?;
     let answer = descriptor::write(d, room);
     match answer {
-        WriteAnswer::Done => printing::text(b"write: done\n"),
+        WriteAnswer::Done => printing::text(rt, b"write: done\n")?,
         WriteAnswer::Refused(why) => {
-            printing::text(b"write");
-            printing::refused(why);
+            printing::text(rt, b"write")?;
+            printing::refused(rt, why)?;
         }
     }
-    printing::text(b"leaves");
-    printing::bytes(&room[..]);
+    printing::text(rt, b"leaves")?;
+    printing::bytes(rt, &room[..])
 }
 
-fn short_segments() {
-    check(0, 0, 4);
-    check(2, 1, 4);
-    check(3, 2, 6);
-    check(4, 3, 4);
-    check(5, 4, 5);
+fn short_segments(rt: &impl Print) -> io::Result<()> {
+    check(rt, 0, 0, 4)?;
+    check(rt, 2, 1, 4)?;
+    check(rt, 3, 2, 6)?;
+    check(rt, 4, 3, 4)?;
+    check(rt, 5, 4, 5)
 }
 
-fn long_segments() {
-    check(262143, 262142, 262143);
-    check(262144, 262143, 262144);
-    check(262145, 262144, 262145);
-    check(524288, 524287, 524288);
+fn long_segments(rt: &impl Print) -> io::Result<()> {
+    check(rt, 262143, 262142, 262143)?;
+    check(rt, 262144, 262143, 262144)?;
+    check(rt, 262145, 262144, 262145)?;
+    check(rt, 524288, 524287, 524288)
 }
 
-fn masks() {
-    check(4, 2, 4);
-    check(4, 3, 4);
-    check(4, 4, 4);
+fn masks(rt: &impl Print) -> io::Result<()> {
+    check(rt, 4, 2, 4)?;
+    check(rt, 4, 3, 4)?;
+    check(rt, 4, 4, 4)
 }
 
-fn short_count_lengths() {
-    check(4, 3, 0);
-    check(4, 3, 3);
-    check(4, 3, 4);
-    check(4, 3, 5);
+fn short_count_lengths(rt: &impl Print) -> io::Result<()> {
+    check(rt, 4, 3, 0)?;
+    check(rt, 4, 3, 3)?;
+    check(rt, 4, 3, 4)?;
+    check(rt, 4, 3, 5)
 }
 
-fn long_count_lengths() {
-    check(4, 3, 2147483636);
-    check(4, 3, 2147483640);
-    check(262144, 262143, 2146697216);
-    check(262144, 262143, 2146959360);
-    check(4, 3, 4294967292);
+fn long_count_lengths(rt: &impl Print) -> io::Result<()> {
+    check(rt, 4, 3, 2147483636)?;
+    check(rt, 4, 3, 2147483640)?;
+    check(rt, 262144, 262143, 2146697216)?;
+    check(rt, 262144, 262143, 2146959360)?;
+    check(rt, 4, 3, 4294967292)
 }
 
 // More than one fault: the first in the order of the numbers is told.
-fn two_faults() {
-    check(5, 5, 0);
-    check(8, 8, 0);
+fn two_faults(rt: &impl Print) -> io::Result<()> {
+    check(rt, 5, 5, 0)?;
+    check(rt, 8, 8, 0)
 }
 
-fn room_of_19() {
+fn room_of_19(rt: &impl Print) -> io::Result<()> {
     let mut room = [170u8; 19];
-    write(made(1, 4, 3, 4), &mut room);
-    write(made(1, 5, 4, 5), &mut room);
-    read(&room);
+    write(rt, made(1, 4, 3, 4), &mut room)?;
+    write(rt, made(1, 5, 4, 5), &mut room)?;
+    read(rt, &room)
 }
 
-fn room_of_20() {
+fn room_of_20(rt: &impl Print) -> io::Result<()> {
     let mut room = [170u8; 20];
-    write(made(1, 4, 3, 4), &mut room);
-    read(&room);
+    write(rt, made(1, 4, 3, 4), &mut room)?;
+    read(rt, &room)
 }
 
-fn room_of_21() {
+fn room_of_21(rt: &impl Print) -> io::Result<()> {
     let mut room = [170u8; 21];
-    write(made(18446744073709551615, 512, 511, 4608), &mut room);
-    read(&room);
+    write(rt, made(18446744073709551615, 512, 511, 4608), &mut room)?;
+    read(rt, &room)
 }
 
-fn room_of_25() {
+fn room_of_25(rt: &impl Print) -> io::Result<()> {
     let mut room = [170u8; 25];
-    write(made(1, 5, 4, 5), &mut room);
-    write(made(1, 4, 3, 4), &mut room);
+    write(rt, made(1, 5, 4, 5), &mut room)?;
+    write(rt, made(1, 4, 3, 4), &mut room)
 }
 
 fn low_byte(x: u32) -> u8 {
@@ -148,28 +149,28 @@ pub fn bytes_of(segment: u32, mask: u32, span: u32) -> [u8; 21] {
     bytes
 }
 
-fn read_with(segment: u32, mask: u32, span: u32) {
+fn read_with(rt: &impl Print, segment: u32, mask: u32, span: u32) -> io::Result<()> {
     let bytes = bytes_of(segment, mask, span);
-    read(&bytes[0..20]);
+    read(rt, &bytes[0..20])
 }
 
-fn damaged_bytes() {
-    read_with(5, 3, 4);
-    read_with(4, 4, 4);
-    read_with(4, 3, 0);
-    read_with(4, 3, 4);
+fn damaged_bytes(rt: &impl Print) -> io::Result<()> {
+    read_with(rt, 5, 3, 4)?;
+    read_with(rt, 4, 4, 4)?;
+    read_with(rt, 4, 3, 0)?;
+    read_with(rt, 4, 3, 4)
 }
 
-pub fn run() {
-    short_segments();
-    long_segments();
-    masks();
-    short_count_lengths();
-    long_count_lengths();
-    two_faults();
-    room_of_19();
-    room_of_20();
-    room_of_21();
-    room_of_25();
-    damaged_bytes();
+pub fn run(rt: &impl Print) -> io::Result<()> {
+    short_segments(rt)?;
+    long_segments(rt)?;
+    masks(rt)?;
+    short_count_lengths(rt)?;
+    long_count_lengths(rt)?;
+    two_faults(rt)?;
+    room_of_19(rt)?;
+    room_of_20(rt)?;
+    room_of_21(rt)?;
+    room_of_25(rt)?;
+    damaged_bytes(rt)
 }

@@ -6,8 +6,10 @@ mod descriptors;
 mod flushes;
 mod queries;
 
-fn main() {
-    descriptors::run();
-    flushes::run();
-    queries::run();
+use std::io;
+
+fn main(rt: HostRuntime) -> io::Result<()> {
+    descriptors::run(&rt)?;
+    flushes::run(&rt)?;
+    queries::run(&rt)
 }

@@ -5,6 +5,7 @@ use crate::{buffers, left, lines};
 use descriptor::Descriptor;
 use plan::BuildAnswer;
 use query::ContainsAnswer;
+use std::io;
 
 fn one_if_listed(key: u64, d: Descriptor, fingerprints: &[u16]) -> u64 {
     match bfuse16::contains(d, fingerprints, key) {
@@ -24,26 +25,32 @@ fn listed(keys: &[u64], d: Descriptor, fingerprints: &[u16]) -> u64 {
     count
 }
 
-fn tell(answered: BuildAnswer, keys: &[u64], fingerprints: &[u16; LENGTH]) {
+fn tell(
+    rt: &impl Print,
+    answered: BuildAnswer,
+    keys: &[u64],
+    fingerprints: &[u16; LENGTH],
+) -> io::Result<()> {
     match answered {
         BuildAnswer::Built(d, slots, attempt) => {
             let all = &fingerprints[..];
             let end = buffers::least(slots as usize, all.len());
             let list = &all[0..end];
             let found = listed(keys, d, list);
-            lines::built(d, end, attempt, samples::digest16(list, end), found);
+            lines::built(rt, d, end, attempt, samples::digest16(list, end), found)
         }
-        BuildAnswer::Refused(why) => printing::refusal(why),
+        BuildAnswer::Refused(why) => printing::refusal(rt, why),
     }
 }
 
 // Tells the answer, and answers what is left of the fingerprints, of which `slots` are needed.
 pub fn told(
+    rt: &impl Print,
     answered: BuildAnswer,
     keys: &[u64],
     slots: usize,
     fingerprints: &[u16; LENGTH],
-) -> Left {
-    tell(answered, keys, fingerprints);
-    left::fingerprints16(slots, fingerprints)
+) -> io::Result<Left> {
+    tell(rt, answered, keys, fingerprints)?;
+    Ok(left::fingerprints16(slots, fingerprints))
 }

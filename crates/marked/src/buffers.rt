@@ -27,7 +27,7 @@ const NO_BUFFER: u32 = 7;
 
 // What a list of keys needs: A, its number of keys, and P. Each buffer is lent with `spare` elements more, but the buffer `short` with
 // one fewer than needed.
-#[derive(Drop)]
+#[derive(Clone, Copy, Drop)]
 pub struct Lent {
     pub slots: usize,
     pub keys: usize,

@@ -4,10 +4,11 @@ use crate::buffers::{LENGTH, Lent, MARK};
 use crate::left::Left;
 use crate::{bits8, bits16, buffers, left, lines};
 use plan::BuildAnswer;
+use std::io;
 
 // A build with its attempt limit, or an attempt with its number, at a width. Both widths stand in one enum so that there are few functions
 // over all the buffers: each is costly to check.
-#[derive(Drop)]
+#[derive(Clone, Copy, Drop)]
 enum Call {
     Build8(u32),
     Attempt8(u32),
@@ -45,23 +46,24 @@ fn answer(
 
 // Tells the answer, and answers what is left of the fingerprints of the call's width.
 fn told(
+    rt: &impl Print,
     call: Call,
     answered: BuildAnswer,
     keys: &[u64],
     slots: usize,
     bytes: &[u8; LENGTH],
     pairs: &[u16; LENGTH],
-) -> Left {
+) -> io::Result<Left> {
     match call {
-        Call::Build8(_) => bits8::told(answered, keys, slots, bytes),
-        Call::Attempt8(_) => bits8::told(answered, keys, slots, bytes),
-        Call::Build16(_) => bits16::told(answered, keys, slots, pairs),
-        Call::Attempt16(_) => bits16::told(answered, keys, slots, pairs),
+        Call::Build8(_) => bits8::told(rt, answered, keys, slots, bytes),
+        Call::Attempt8(_) => bits8::told(rt, answered, keys, slots, bytes),
+        Call::Build16(_) => bits16::told(rt, answered, keys, slots, pairs),
+        Call::Attempt16(_) => bits16::told(rt, answered, keys, slots, pairs),
     }
 }
 
 // The call on the first elements of arrays of marks.
-fn on_marked(call: Call, keys: &[u64], lent: Lent) {
+fn on_marked(rt: &impl Print, call: Call, keys: &[u64], lent: Lent) -> io::Result<()> {
     let mut bytes = [MARK; LENGTH];
     let mut pairs = [MARK as u16; LENGTH];
     let mut lone = [MARK as u32; LENGTH];
@@ -89,23 +91,23 @@ fn on_marked(call: Call, keys: &[u64], lent: Lent) {
         &mut order[0..order_end],
         &mut starts[0..starts_end],
     );
-    let list = told(call, answered, keys, lent.slots, &bytes, &pairs);
+    let list = told(rt, call, answered, keys, lent.slots, &bytes, &pairs)?;
     let scratch = left::scratch(lent, &lone, &counts, &sums, &positions, &order, &starts);
-    left::in_words(list, scratch);
+    left::in_words(rt, list, scratch)
 }
 
-pub fn build(keys: &[u64], limit: u32, lent: Lent) {
-    lines::heading(b"build", keys, b"limit", limit);
-    on_marked(Call::Build8(limit), keys, lent);
-    printing::text(b"16 bits: ");
-    lines::heading(b"build", keys, b"limit", limit);
-    on_marked(Call::Build16(limit), keys, lent);
+pub fn build(rt: &impl Print, keys: &[u64], limit: u32, lent: Lent) -> io::Result<()> {
+    lines::heading(rt, b"build", keys, b"limit", limit)?;
+    on_marked(rt, Call::Build8(limit), keys, lent)?;
+    printing::text(rt, b"16 bits: ")?;
+    lines::heading(rt, b"build", keys, b"limit", limit)?;
+    on_marked(rt, Call::Build16(limit), keys, lent)
 }
 
-pub fn attempt(keys: &[u64], number: u32, lent: Lent) {
-    lines::heading(b"attempt", keys, b"number", number);
-    on_marked(Call::Attempt8(number), keys, lent);
-    printing::text(b"16 bits: ");
-    lines::heading(b"attempt", keys, b"number", number);
-    on_marked(Call::Attempt16(number), keys, lent);
+pub fn attempt(rt: &impl Print, keys: &[u64], number: u32, lent: Lent) -> io::Result<()> {
+    lines::heading(rt, b"attempt", keys, b"number", number)?;
+    on_marked(rt, Call::Attempt8(number), keys, lent)?;
+    printing::text(rt, b"16 bits: ")?;
+    lines::heading(rt, b"attempt", keys, b"number", number)?;
+    on_marked(rt, Call::Attempt16(number), keys, lent)
 }

@@ -4,6 +4,7 @@ ghost use Rattle.std.specs.Prelude.{◌+◌, ◌<◌};
 ghost use Rattle.layout.specs.Layout.{max_slots};
 
 use crate::buffers::{LENGTH, Lent, MARK};
+use std::io;
 
 #[derive(Drop)]
 pub struct Left {
@@ -110,29 +111,26 @@ pub fn scratch(
     left
 }
 
-pub fn in_words(list: Left, scratch: Left) {
-    printing::text(b"; fingerprints");
-    in_a_word(list);
-    printing::text(b", scratch");
-    in_a_word(scratch);
-    printing::line_end();
+pub fn in_words(rt: &impl Print, list: Left, scratch: Left) -> io::Result<()> {
+    printing::text(rt, b"; fingerprints")?;
+    in_a_word(rt, list)?;
+    printing::text(rt, b", scratch")?;
+    in_a_word(rt, scratch)?;
+    printing::line_end(rt)
 }
 
-fn in_a_word(left: Left) {
+fn in_a_word(rt: &impl Print, left: Left) -> io::Result<()> {
     let kept = left.kept;
     let zeroed = left.zeroed;
     let beyond_kept = left.beyond_kept;
     if kept {
-        printing::text(b" unchanged");
-        return;
+        return printing::text(rt, b" unchanged");
     }
     if !beyond_kept {
-        printing::text(b" changed beyond the needed part");
-        return;
+        return printing::text(rt, b" changed beyond the needed part");
     }
     if zeroed {
-        printing::text(b" zeroed");
-        return;
+        return printing::text(rt, b" zeroed");
     }
-    printing::text(b" written");
+    printing::text(rt, b" written")
 }

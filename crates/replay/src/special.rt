@@ -1,105 +1,107 @@
 // The lists whose keys are printed: small ones that are stuck at first, keys whose hash is 0, and chains up to the last attempt.
 use crate::answer;
+use std::io;
 
-fn listed(keys: &[u64]) {
-    printing::text(b"1");
-    printing::spaced(keys.len() as u64);
-    printing::numbers(keys);
-    answer::print(keys);
+fn listed(rt: &impl Print, keys: &[u64]) -> io::Result<()> {
+    printing::text(rt, b"1")?;
+    printing::spaced(rt, keys.len() as u64)?;
+    printing::numbers(rt, keys)?;
+    answer::print(rt, keys)
 }
 
-fn two(first: u64, second: u64) {
+fn two(rt: &impl Print, first: u64, second: u64) -> io::Result<()> {
     let keys = [first, second];
-    listed(&keys);
+    listed(rt, &keys)
 }
 
-fn three(first: u64, second: u64) {
+fn three(rt: &impl Print, first: u64, second: u64) -> io::Result<()> {
     let keys = [first, second, 0];
-    listed(&keys);
+    listed(rt, &keys)
 }
 
-fn five(first: u64, second: u64) {
+fn five(rt: &impl Print, first: u64, second: u64) -> io::Result<()> {
     let keys = [first, second, 0, 1, 2];
-    listed(&keys);
+    listed(rt, &keys)
 }
 
-pub fn small() {
-    two(2, 4);
-    two(26, 76);
-    two(327, 461);
-    two(2002, 2074);
-    two(11039, 22808);
-    three(7, 13);
-    three(51, 559);
-    five(7, 13);
-    five(18, 413);
-    five(11173, 11237);
+pub fn small(rt: &impl Print) -> io::Result<()> {
+    two(rt, 2, 4)?;
+    two(rt, 26, 76)?;
+    two(rt, 327, 461)?;
+    two(rt, 2002, 2074)?;
+    two(rt, 11039, 22808)?;
+    three(rt, 7, 13)?;
+    three(rt, 51, 559)?;
+    five(rt, 7, 13)?;
+    five(rt, 18, 413)?;
+    five(rt, 11173, 11237)
 }
 
-fn alone(key: u64) {
+fn alone(rt: &impl Print, key: u64) -> io::Result<()> {
     let keys = [key];
-    listed(&keys);
+    listed(rt, &keys)
 }
 
 // The key whose hash is 0 in attempt 1: alone, after a key, and before it and others.
-fn hash_zero_at_1(a: u64) {
+fn hash_zero_at_1(rt: &impl Print, a: u64) -> io::Result<()> {
     let key = samples::of_hash(0, 1);
-    alone(key);
+    alone(rt, key)?;
     let after = [a, key];
-    listed(&after);
+    listed(rt, &after)?;
     let before = [key, a, 1, 2, 3, 4, 5, 6, 7];
-    listed(&before);
+    listed(rt, &before)
 }
 
 // The same in attempt 2, where a and b are stuck in attempt 1.
-fn hash_zero_at_2(a: u64, b: u64) {
+fn hash_zero_at_2(rt: &impl Print, a: u64, b: u64) -> io::Result<()> {
     let key = samples::of_hash(0, 2);
-    alone(key);
+    alone(rt, key)?;
     let after = [a, b, key];
-    listed(&after);
+    listed(rt, &after)?;
     let before = [key, a, b, 1, 2, 3, 4, 5, 6, 7];
-    listed(&before);
+    listed(rt, &before)
 }
 
 // The same in attempt 3, where a, b and c are stuck in attempts 1 and 2.
-fn hash_zero_at_3(a: u64, b: u64, c: u64) {
+fn hash_zero_at_3(rt: &impl Print, a: u64, b: u64, c: u64) -> io::Result<()> {
     let key = samples::of_hash(0, 3);
-    alone(key);
+    alone(rt, key)?;
     let after = [a, b, c, key];
-    listed(&after);
+    listed(rt, &after)?;
     let before = [key, a, b, c, 1, 2, 3, 4, 5, 6, 7];
-    listed(&before);
+    listed(rt, &before)
 }
 
-pub fn with_hash_zero() {
+pub fn with_hash_zero(rt: &impl Print) -> io::Result<()> {
     let mut keys = [0u64; 3];
     samples::chain(&mut keys);
-    hash_zero_at_1(keys[0]);
-    hash_zero_at_2(keys[0], keys[1]);
-    hash_zero_at_3(keys[0], keys[1], keys[2]);
+    hash_zero_at_1(rt, keys[0])?;
+    hash_zero_at_2(rt, keys[0], keys[1])?;
+    hash_zero_at_3(rt, keys[0], keys[1], keys[2])
 }
 
-fn first_of(keys: &[u64], size: usize) {
+fn first_of(rt: &impl Print, keys: &[u64], size: usize) -> io::Result<()> {
     if size <= keys.len() {
-        listed(&keys[0..size]);
+        listed(rt, &keys[0..size])?;
     }
+    Ok(())
 }
 
-fn short_chains(keys: &[u64]) {
-    first_of(keys, 2);
-    first_of(keys, 3);
-    first_of(keys, 4);
-    first_of(keys, 5);
-    first_of(keys, 6);
-    first_of(keys, 7);
-    first_of(keys, 8);
-    first_of(keys, 9);
+fn short_chains(rt: &impl Print, keys: &[u64]) -> io::Result<()> {
+    first_of(rt, keys, 2)?;
+    first_of(rt, keys, 3)?;
+    first_of(rt, keys, 4)?;
+    first_of(rt, keys, 5)?;
+    first_of(rt, keys, 6)?;
+    first_of(rt, keys, 7)?;
+    first_of(rt, keys, 8)?;
+    first_of(rt, keys, 9)
 }
 
-pub fn chains() {
+pub fn chains(rt: &impl Print) -> io::Result<()> {
     let mut keys = [0u64; 1001];
     samples::chain(&mut keys);
-    short_chains(&keys);
-    first_of(&keys, 1000);
-    listed(&keys);
+    short_chains(rt, &keys)?;
+    first_of(rt, &keys, 1000)?;
+    listed(rt, &keys)
 }
