@@ -1,2 +1,6 @@
+pub mod Checked
+pub mod LeftAsSaid
+pub mod Demanded
+pub mod ByTwentyBytes
 pub mod Trying
 pub mod Searching

@@ -7,15 +7,11 @@ pub mod Seek
 pub mod Demand
 pub mod FreeAttempts
 pub mod FirstFree
-pub mod Checked
 pub mod EnoughRoom
-pub mod Demanded
 pub mod QueryMeans
 pub mod AcceptedSlots
 pub mod ToldApart
 pub mod Leaves
-pub mod LeftAsSaid
-pub mod ByTwentyBytes
 pub mod SameLengths
 pub mod Narrow
 pub mod SideBySide
