@@ -16,4 +16,3 @@ pub mod SameLengths
 pub mod Narrow
 pub mod SideBySide
 pub mod QueryWidths
-pub mod Widths
