@@ -10,7 +10,7 @@ use Rattle.fuse.specs.Build.{build_of, attempt_of}
 use Rattle.fuse.specs.Query.{contains_of}
 use Rattle.fuse.specs.SameLengths.{SameLengths}
 use Rattle.fuse.specs.Narrow.{NarrowerList}
-use Rattle.fuse.specs.Widths.{build_narrower, attempt_narrower}
+use Rattle.fuse.proofs.Widths.{build_narrower, attempt_narrower}
 use Rattle.plan.specs.declared.BuildAnswer.{BuildAnswer}
 use Rattle.plan.specs.declared.BuildAnswer.TheVariants.{Built}
 use Rattle.plan.specs.Paper.{paper}

@@ -9,11 +9,11 @@ use Rattle.stuck.specs.FirstFree.{First, AllStuck}
 use Rattle.fuse.specs.Attempts.{max_attempts, slots_at}
 use Rattle.fuse.specs.Query.{fingerprints_for, contains_bytes_of, told}
 use Rattle.fuse.specs.Memory.{Memory}
-use Rattle.fuse.specs.Checked.{passed}
+use Rattle.fuse.proofs.Checked.{passed}
 use Rattle.fuse.specs.Build.{Success, search_of, build_of}
 use Rattle.fuse.specs.Demand.{Demand3}
-use Rattle.fuse.specs.Demanded.{demand_met}
-use Rattle.fuse.specs.ByTwentyBytes.{success_is, listed_key_yes_by_bytes}
+use Rattle.fuse.proofs.Demanded.{demand_met}
+use Rattle.fuse.proofs.ByTwentyBytes.{success_is, listed_key_yes_by_bytes}
 use Rattle.c_api.specs.BuildTold.{BuildTold, build_told, refusal_code, told_built, told_build}
 
 pub record Reliable (w : ℕ) (keys : List ℕ) (limit : ℕ) (t : BuildTold) : Type 0 where

@@ -1,5 +1,5 @@
 -- Document 01, answers 5 and 6 and "What the promises say": the demand that a build stops at the first allowed attempt without a stuck set and that every
--- listed key then answers yes. It stands beside the equation, which fixes the rest, and follows from it (Demanded.antt). A build has the attempts 1 to its
+-- listed key then answers yes. It stands beside the equation, which fixes the rest, and follows from it (proofs/Demanded.antt). A build has the attempts 1 to its
 -- limit, a single attempt just its number; fingerprints have w bits. Assumes nothing.
 use Rattle.std.specs.Prelude.{◌≡◌, ◌↔◌, true, List, ℕ, ◌<◌, length, take, get_or}
 use Rattle.answers.specs.Answers.{Answer, refuses, gives}

@@ -1,5 +1,5 @@
 -- Document 01, "Answers", the column "Leaves" and the sentences below the table: what each answer of a build or of one attempt leaves of the memory
--- that was lent, in named fields. (It follows from the outcome: LeftAsSaid.antt.) Assumes nothing.
+-- that was lent, in named fields. (It follows from the outcome: proofs/LeftAsSaid.antt.) Assumes nothing.
 use Rattle.std.specs.Prelude.{◌≡◌, List, ℕ, ◌+◌, ◌≤◌, ◌<◌, length, take, drop, replicate}
 use Rattle.answers.specs.Answers.{Answer, refuses, gives}
 use Rattle.layout.specs.Layout.{slot_count_of, bucket_starts_of}

@@ -7,17 +7,12 @@ pub mod Seek
 pub mod Demand
 pub mod FreeAttempts
 pub mod FirstFree
-pub mod Checked
 pub mod EnoughRoom
-pub mod Demanded
 pub mod QueryMeans
 pub mod AcceptedSlots
 pub mod ToldApart
 pub mod Leaves
-pub mod LeftAsSaid
-pub mod ByTwentyBytes
 pub mod SameLengths
 pub mod Narrow
 pub mod SideBySide
 pub mod QueryWidths
-pub mod Widths

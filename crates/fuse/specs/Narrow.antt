@@ -1,5 +1,5 @@
 -- Document 02, wish 2, "the same filter with 16-bit fingerprints", for any two widths w ≤ v: what the list of w bits has to do with the list of
--- v bits of the same keys and limit. (It follows from the definitions: Widths.antt, QueryWidths.antt.) Definitions only. Assumes nothing.
+-- v bits of the same keys and limit. (It follows from the definitions: proofs/Widths.antt, QueryWidths.antt.) Definitions only. Assumes nothing.
 use Rattle.std.specs.Prelude.{◌≡◌, ◌↔◌, Bool, true, ℕ, take}
 use Rattle.words.specs.Low.{low}
 use Rattle.answers.specs.Answers.{Answer, refuses, gives, Outcome, outcome}

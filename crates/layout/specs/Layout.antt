@@ -8,7 +8,7 @@ use Rattle.layout.specs.declared.Layout.{Layout}
 abbrev pub max_slots : ℕ
 max_slots = 10752
 
--- ours: no list asks for more bucket starts (P), as Lengths.antt shows
+-- ours: no list asks for more bucket starts (P), as proofs/Lengths.antt shows
 abbrev pub max_starts : ℕ
 max_starts = 64
 
@@ -52,7 +52,7 @@ layout_with l k = record { segment_length = l; segment_count = k; segment_count_
 unfoldable pub plain_of : ℕ → Layout
 plain_of n = layout_with (segment_length_of n) (count_of (capacity_of n) (segment_length_of n))
 
--- A, the number of slots for n keys. (It is the same in every attempt: Fits.antt.)
+-- A, the number of slots for n keys. (It is the same in every attempt: proofs/Fits.antt.)
 abbrev pub slot_count_of : ℕ → ℕ
 slot_count_of n = (plain_of n).array_length
 

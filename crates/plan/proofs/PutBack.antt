@@ -7,7 +7,7 @@ use Rattle.answers.specs.Checks.{Done, done, unless_refused}
 use Rattle.layout.specs.Layout.{slot_count_of, bucket_starts_of}
 use Rattle.fuse.specs.Attempts.{free}
 use Rattle.fuse.specs.Memory.{Memory, checks_of}
-use Rattle.fuse.specs.Checked.{Passed, passed}
+use Rattle.fuse.proofs.Checked.{Passed, passed}
 use Rattle.fuse.specs.Build.{first_free, search_of}
 use Rattle.plan.specs.declared.Plan.{Plan}
 use Rattle.plan.specs.declared.Plan.TheVariants.{Found, Stuck, Refused}

@@ -1,7 +1,7 @@
 -- `plan::make` meets its contract: a refusal leaves all as it was, and what is done on the needed parts is put back. Assumes nothing.
 use Rattle.std.proofs.Common.{rules, sym, length}
 use Rattle.fuse.specs.Memory.{Memory}
-use Rattle.fuse.specs.Checked.{Passed, passed}
+use Rattle.fuse.proofs.Checked.{Passed, passed}
 use Rattle.plan.specs.Plans.{scratch}
 use Rattle.plan.specs.CarriedOut.{part}
 use Rattle.plan.proofs.PutBack.{Rooms, within_lent, parts_can_plan, refused, planned}

@@ -1,6 +1,6 @@
 -- `bfuse16::lists::attempt` meets its contract: the one attempt of that number; what is demanded and what is left follow from the outcome. Assumes nothing.
 use Rattle.std.proofs.Common.{arith}
-use Rattle.fuse.specs.Demanded.{outcome_met}
+use Rattle.fuse.proofs.Demanded.{outcome_met}
 use Rattle.plan.specs.CarriedOut.{as_planned}
 use Rattle.bfuse16.proofs.lists.attempt.Goals as goal
 

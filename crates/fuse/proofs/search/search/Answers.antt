@@ -9,7 +9,7 @@ loop-i-preserved c =
     record {
       from = omega arith;
       to = omega arith;
-      rest = go_on _ _ _ _ c.loop-i.invariant.rest c.if-last-i.false _ _ _ c.try_attempt-taken.ensures c.if-taken-keys.false;
+      rest = go_on _ _ _ _ c.loop-i.invariant.rest (omega arith) _ _ _ c.try_attempt-taken.ensures c.if-taken-keys.false;
       can = record {
         few = can.few;
         lone_length = omega arith;
@@ -25,7 +25,7 @@ returns-then-last-i c = none_left _ _ _ _ c.loop-i.invariant.rest _ _ c.if-last-
 
 pub returns-then-taken-keys : goal.returns-then-taken-keys
 returns-then-taken-keys c =
-    found_one _ _ _ _ c.loop-i.invariant.rest c.if-last-i.false _ _ _ c.try_attempt-taken.ensures c.if-taken-keys.true
+    found_one _ _ _ _ c.loop-i.invariant.rest (omega arith) _ _ _ c.try_attempt-taken.ensures c.if-taken-keys.true
 
 pub returns-then-hopeless : goal.returns-then-hopeless
 returns-then-hopeless c = no_hope _ _ _ _ _ c.loop-i.invariant.can.few (c.hopeless.ensures c.if-hopeless.true)

@@ -16,10 +16,10 @@ use Rattle.repeats.specs.Repeats.{repeats?}
 use Rattle.fuse.specs.Attempts.{descriptor_at, free}
 use Rattle.fuse.specs.Query.{fingerprints_for, contains_of, contains_bytes_of}
 use Rattle.fuse.specs.Memory.{Memory, checked}
-use Rattle.fuse.specs.Checked.{passed}
+use Rattle.fuse.proofs.Checked.{passed}
 use Rattle.fuse.specs.Build.{Success, success, first_free, repeated_outcome, found_outcome, search_of}
 use Rattle.fuse.specs.FreeAttempts.{attempt_length}
-use Rattle.fuse.specs.Demanded.{demand_met}
+use Rattle.fuse.proofs.Demanded.{demand_met}
 
 -- ---- a descriptor by its bytes
 

@@ -13,13 +13,13 @@ use Rattle.stuck.specs.FirstFree.{First, AllStuck}
 use Rattle.stuck.proofs.FirstOrAll.{first_same, first_not_all}
 use Rattle.fuse.specs.Attempts.{descriptor_at, slots_at, free, fingerprints_at}
 use Rattle.fuse.specs.Memory.{Memory, checked}
-use Rattle.fuse.specs.Checked.{up_to_four, passed}
+use Rattle.fuse.proofs.Checked.{up_to_four, passed}
 use Rattle.fuse.specs.Build.{Success, success, found_outcome, repeated_outcome, search_of}
 use Rattle.fuse.specs.FirstFree.{FirstFree, NoneFree, first_is}
 use Rattle.fuse.specs.FreeAttempts.{free_none_stuck, not_free_stuck, repeats_not_free, attempt_fingerprints_length, attempt_accepts, listed_key_yes}
 use Rattle.fuse.specs.Demand.{Demand3}
 use Rattle.fuse.specs.Leaves.{Leaves}
-use Rattle.fuse.specs.LeftAsSaid.{left_as_said}
+use Rattle.fuse.proofs.LeftAsSaid.{left_as_said}
 
 -- ---- free attempts are those without a stuck set
 

@@ -10,7 +10,7 @@ use Rattle.layout.specs.Layout.{slot_count_of, bucket_starts_of}
 use Rattle.repeats.specs.Repeats.{repeats?}
 use Rattle.fuse.specs.Attempts.{free, descriptor_at, fingerprints_at}
 use Rattle.fuse.specs.Memory.{Memory, zeroed, checked, scratch_zeroed}
-use Rattle.fuse.specs.Checked.{up_to_four}
+use Rattle.fuse.proofs.Checked.{up_to_four}
 use Rattle.fuse.specs.Build.{Success, success, first_free, repeated_outcome, found_outcome, search_of}
 use Rattle.fuse.specs.FreeAttempts.{attempt_fingerprints_length}
 use Rattle.fuse.specs.Leaves.{ZeroedUpTo, KeptBeyond, EachScratch, Leaves}
