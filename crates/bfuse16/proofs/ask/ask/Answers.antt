@@ -20,13 +20,13 @@ slots-slots-requires c =
     slots-room (suited c.args.d c.args.fingerprints.now c.suits.ensures (ap not c.if-not-suits.false))
 
 pub bounds-fingerprints-first : goal.bounds-fingerprints-first
-bounds-fingerprints-first c = (passed (goal.at.bounds-fingerprints-first c).After-slots-slots).in0
+bounds-fingerprints-first c = search (passed (goal.at.bounds-fingerprints-first c).After-slots-slots)
 
 pub bounds-fingerprints-second : goal.bounds-fingerprints-second
-bounds-fingerprints-second c = (passed (goal.at.bounds-fingerprints-second c).After-slots-slots).in1
+bounds-fingerprints-second c = search (passed (goal.at.bounds-fingerprints-second c).After-slots-slots)
 
 pub bounds-fingerprints-third : goal.bounds-fingerprints-third
-bounds-fingerprints-third c = (passed (goal.at.bounds-fingerprints-third c).After-slots-slots).in2
+bounds-fingerprints-third c = search (passed (goal.at.bounds-fingerprints-third c).After-slots-slots)
 
 pub returns-then-fingerprint-fingerprints-ne0 : goal.returns-then-fingerprint-fingerprints-ne0
 returns-then-fingerprint-fingerprints-ne0 c =
