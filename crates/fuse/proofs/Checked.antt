@@ -4,7 +4,7 @@ use Rattle.std.proofs.Common.{arith, lit≤}
 use borrow.Author.Tests.{eqb-false, ltb-false}
 use Rattle.std.proofs.Math.Dec.{ltb}
 use Rattle.answers.specs.Answers.{Answer, refuses, gives}
-use Rattle.answers.specs.Checks.{Done, done}
+use Rattle.answers.specs.Checks.{Done, done, refuse_if, ◌then◌}
 use Rattle.answers.specs.Never.{never}
 use Rattle.capacity.specs.Capacity.{max_keys}
 use Rattle.layout.specs.Layout.{slot_count_of, bucket_starts_of}
@@ -26,6 +26,15 @@ pub record Passed (n limit fingerprints lone counts sums positions order starts 
 neither : (a b : Bool) → a || b ≡ false → (a ≡ false) × (b ≡ false)
 neither true b e = absurd (let z : ◌≡◌ {A = ℕ} 0 1 = cc in omega arith)
 neither false b e = (refl, e)
+
+refused_up_to : (bound : ℕ) (fault : Bool) (number : ℕ) (next : Answer Done) → number ≤ bound → ((k : ℕ) → next ≡ refuses k → k ≤ bound)
+    → (k : ℕ) → refuse_if fault number then next ≡ refuses k → k ≤ bound
+refused_up_to bound true number next h rest k e = let z : number ≡ k = cc in omega arith
+refused_up_to bound false number next h rest k e = rest k e
+
+last_number : (fault : Bool) (number k : ℕ) → refuse_if fault number ≡ refuses k → k ≤ number
+last_number true number k e = let z : number ≡ k = cc in omega arith
+last_number false number k e = absurd (let z : ◌≡◌ {A = ℕ} 0 1 = cc in omega arith)
 
 module _ (n limit fingerprints lone counts sums positions order starts : ℕ) where
   abbrev checks : Answer Done
