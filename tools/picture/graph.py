@@ -4,7 +4,7 @@ import os
 import re
 
 # Libraries of the kit, which crates.txt may name too.
-KIT = {"check", "io", "libc", "os", "bytes"}
+KIT = {"arrayvec"}
 
 
 def read(path="crates.txt"):
