@@ -18,7 +18,7 @@ pub struct Contents {
 }
 
 // A file's bytes at the start of the room, which has one place more than a file may fill. If they are not whole, it is said why.
-pub fn read<R: Files + Eprint>(rt: &R, path: &str, room: &mut [u8]) -> Contents
+pub fn read<R: Files + Eprint>(rt: &R, path: &[u8], room: &mut [u8]) -> Contents
     ensures { IsPrefixLen result.count room.new }
 {
     // A pipe might keep it waiting for ever, and a device never end.
@@ -29,7 +29,7 @@ pub fn read<R: Files + Eprint>(rt: &R, path: &str, room: &mut [u8]) -> Contents
             whole: false,
         };
     }
-    match fs::open(rt, path) {
+    match open(rt, path) {
         Ok(mut file) => fill(rt, &mut file, path, room),
         Err(why) => {
             failed(rt, path, why);
@@ -41,7 +41,19 @@ pub fn read<R: Files + Eprint>(rt: &R, path: &str, room: &mut [u8]) -> Contents
     }
 }
 
-fn fill(rt: &impl Eprint, file: &mut impl Read, path: &str, room: &mut [u8]) -> Contents
+fn open<R: Files>(rt: &R, path: &[u8]) -> io::Result<R::File> {
+    fs::open(rt, name(path)?)
+}
+
+// The library takes no name that is not UTF-8.
+pub fn name(path: &[u8]) -> io::Result<&str> {
+    match str::from_utf8(path) {
+        Ok(text) => Ok(text),
+        Err(_) => Err(io::Error::from(io::ErrorKind::InvalidInput)),
+    }
+}
+
+fn fill(rt: &impl Eprint, file: &mut impl Read, path: &[u8], room: &mut [u8]) -> Contents
     ensures { IsPrefixLen result.count room.new }
 {
     let mut count = 0;
@@ -64,7 +76,7 @@ fn fill(rt: &impl Eprint, file: &mut impl Read, path: &str, room: &mut [u8]) -> 
 }
 
 // One read into the room: none where the file ends, or where the read failed.
-fn some(rt: &impl Eprint, file: &mut impl Read, path: &str, room: &mut [u8]) -> Contents
+fn some(rt: &impl Eprint, file: &mut impl Read, path: &[u8], room: &mut [u8]) -> Contents
     ensures { result.count ≤ length room.new }
 {
     match file.read(room) {
@@ -79,26 +91,26 @@ fn some(rt: &impl Eprint, file: &mut impl Read, path: &str, room: &mut [u8]) -> 
     }
 }
 
-fn too_long(rt: &impl Eprint, path: &str, size: usize) {
+fn too_long(rt: &impl Eprint, path: &[u8], size: usize) {
     say(rt, path);
-    say(rt, ": not shorter than ");
+    say(rt, b": not shorter than ");
     say_number(rt, size as u64);
-    say(rt, " bytes\n");
+    say(rt, b" bytes\n");
 }
 
-pub fn not_plain(rt: &impl Eprint, path: &str) {
+pub fn not_plain(rt: &impl Eprint, path: &[u8]) {
     say(rt, path);
-    say(rt, ": not a plain file\n");
+    say(rt, b": not a plain file\n");
 }
 
 // What failed, and the system's own words for it, without its number.
-pub fn failed(rt: &impl Eprint, what: &str, why: io::Error) {
+pub fn failed(rt: &impl Eprint, what: &[u8], why: io::Error) {
     let mut words = ArrayString::<256>::new();
     let _ = write!(words, "{why}");
     say(rt, what);
-    say(rt, ": ");
-    say(rt, without_number(words.as_str()));
-    say(rt, "\n");
+    say(rt, b": ");
+    say(rt, without_number(words.as_str()).as_bytes());
+    say(rt, b"\n");
 }
 
 fn without_number(words: &str) -> &str {
@@ -109,8 +121,8 @@ fn without_number(words: &str) -> &str {
 }
 
 // To standard error. What cannot be written there stays unsaid, and changes no answer.
-pub fn say(rt: &impl Eprint, words: &str) {
-    let _ = printing::error(rt, words.as_bytes());
+pub fn say(rt: &impl Eprint, words: &[u8]) {
+    let _ = printing::error(rt, words);
 }
 
 pub fn say_number(rt: &impl Eprint, x: u64) {

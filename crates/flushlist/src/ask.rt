@@ -6,7 +6,7 @@ use std::io;
 use std::rt::Files;
 
 // A question is what a line of the text says.
-pub fn run<R: Files + Print + Eprint>(rt: &R, list: &str, question: Line) -> io::Result<()> {
+pub fn run<R: Files + Print + Eprint>(rt: &R, list: &[u8], question: Line) -> io::Result<()> {
     match question {
         Line::Blank => {
             messages::usage(rt);
@@ -20,7 +20,7 @@ pub fn run<R: Files + Print + Eprint>(rt: &R, list: &str, question: Line) -> io:
     }
 }
 
-fn ask_file<R: Files + Print + Eprint>(rt: &R, list: &str, key: u64) -> io::Result<()> {
+fn ask_file<R: Files + Print + Eprint>(rt: &R, list: &[u8], key: u64) -> io::Result<()> {
     let mut room = held::list_room();
     let contents = files::read(rt, list, &mut room);
     if !contents.whole {

@@ -42,14 +42,18 @@ fn run<R: Files + Print + Eprint + RandomSource>(rt: &R, words: &[String]) -> io
     }
     let command = words[1].as_str();
     if command == "pack" && words.len() == 4 {
-        return pack_named(rt, words[2].as_str(), words[3].as_str());
+        return pack_named(rt, words[2].as_bytes(), words[3].as_bytes());
     }
     if command == "ask" && words.len() == 4 {
-        return ask_key(rt, words[2].as_str(), words[3].as_str());
+        return ask_key(rt, words[2].as_bytes(), words[3].as_bytes());
     }
     if command == "ask" && words.len() == 6 {
-        let (unit, valve, seconds) = (words[3].as_str(), words[4].as_str(), words[5].as_str());
-        return ask_flush(rt, words[2].as_str(), unit, valve, seconds);
+        let (unit, valve, seconds) = (
+            words[3].as_bytes(),
+            words[4].as_bytes(),
+            words[5].as_bytes(),
+        );
+        return ask_flush(rt, words[2].as_bytes(), unit, valve, seconds);
     }
     messages::usage(rt);
     Ok(())
@@ -58,15 +62,15 @@ fn run<R: Files + Print + Eprint + RandomSource>(rt: &R, words: &[String]) -> io
 // flushlist pack TEXT LIST
 fn pack_named<R: Files + Print + Eprint + RandomSource>(
     rt: &R,
-    text: &str,
-    list: &str,
+    text: &[u8],
+    list: &[u8],
 ) -> io::Result<()> {
     if text.len() > NAME {
-        messages::long_name(rt, "the text's name");
+        messages::long_name(rt, b"the text's name");
         return Ok(());
     }
     if list.len() > NAME {
-        messages::long_name(rt, "the list's name");
+        messages::long_name(rt, b"the list's name");
         return Ok(());
     }
     pack::run(rt, text, list)?;
@@ -74,17 +78,17 @@ fn pack_named<R: Files + Print + Eprint + RandomSource>(
 }
 
 // flushlist ask LIST KEY
-fn ask_key<R: Files + Print + Eprint>(rt: &R, list: &str, key: &str) -> io::Result<()> {
+fn ask_key<R: Files + Print + Eprint>(rt: &R, list: &[u8], key: &[u8]) -> io::Result<()> {
     ask_named(rt, list, line::plain(short(key)))
 }
 
 // flushlist ask LIST UNIT VALVE SECONDS
 fn ask_flush<R: Files + Print + Eprint>(
     rt: &R,
-    list: &str,
-    unit: &str,
-    valve: &str,
-    seconds: &str,
+    list: &[u8],
+    unit: &[u8],
+    valve: &[u8],
+    seconds: &[u8],
 ) -> io::Result<()> {
     ask_named(
         rt,
@@ -93,18 +97,14 @@ fn ask_flush<R: Files + Print + Eprint>(
     )
 }
 
-fn ask_named<R: Files + Print + Eprint>(rt: &R, list: &str, question: Line) -> io::Result<()> {
+fn ask_named<R: Files + Print + Eprint>(rt: &R, list: &[u8], question: Line) -> io::Result<()> {
     if list.len() > NAME {
-        messages::long_name(rt, "the list's name");
+        messages::long_name(rt, b"the list's name");
         return Ok(());
     }
     ask::run(rt, list, question)
 }
 
-fn short(word: &str) -> &[u8] {
-    if word.len() > WORD {
-        b""
-    } else {
-        word.as_bytes()
-    }
+fn short(word: &[u8]) -> &[u8] {
+    if word.len() > WORD { b"" } else { word }
 }

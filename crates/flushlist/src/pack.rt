@@ -30,8 +30,8 @@ fn text_room() -> [u8; TEXT_ROOM]
 // Whether the list was written, and read back as it should be; if not, it is said why.
 pub fn run<R: Files + Print + Eprint + RandomSource>(
     rt: &R,
-    text: &str,
-    list: &str,
+    text: &[u8],
+    list: &[u8],
 ) -> io::Result<bool> {
     if !saving::may_replace(rt, text, list) {
         return Ok(false);
@@ -48,7 +48,7 @@ pub fn run<R: Files + Print + Eprint + RandomSource>(
 fn pack_text<R: Files + Print + Eprint + RandomSource>(
     rt: &R,
     text: &[u8],
-    list: &str,
+    list: &[u8],
 ) -> io::Result<bool> {
     let mut room = [0u64; MOST_KEYS];
     let answer = keys::read(text, &mut room);
@@ -64,7 +64,7 @@ fn pack_text<R: Files + Print + Eprint + RandomSource>(
 fn pack_keys<R: Files + Print + Eprint + RandomSource>(
     rt: &R,
     keys: &[u64],
-    list: &str,
+    list: &[u8],
 ) -> io::Result<bool> {
     if keys.len() == 0 {
         messages::no_flush(rt, list);
@@ -110,7 +110,7 @@ fn save<R: Files + Eprint + RandomSource>(
     rt: &R,
     d: Descriptor,
     fingerprints: &[u8],
-    list: &str,
+    list: &[u8],
 ) -> bool {
     let mut bytes = [0u8; DESCRIPTOR_SIZE];
     let answer = descriptor::write(d, &mut bytes);
@@ -124,7 +124,7 @@ fn save<R: Files + Eprint + RandomSource>(
 }
 
 // Whether the file that now has the name answers yes to every key. It may be another program's; then it is said.
-fn holds<R: Files + Eprint>(rt: &R, list: &str, keys: &[u64]) -> bool {
+fn holds<R: Files + Eprint>(rt: &R, list: &[u8], keys: &[u64]) -> bool {
     let mut room = held::list_room();
     let contents = files::read(rt, list, &mut room);
     if !contents.whole {
@@ -140,8 +140,8 @@ fn holds<R: Files + Eprint>(rt: &R, list: &str, keys: &[u64]) -> bool {
 }
 
 // As `due.list: keys 13, fingerprints 48, attempt 1`.
-fn tell(rt: &impl Print, list: &str, keys: usize, slots: usize, attempt: u32) -> io::Result<()> {
-    printing::text(rt, list.as_bytes())?;
+fn tell(rt: &impl Print, list: &[u8], keys: usize, slots: usize, attempt: u32) -> io::Result<()> {
+    printing::text(rt, list)?;
     printing::text(rt, b": keys ")?;
     printing::number(rt, keys as u64)?;
     printing::text(rt, b", fingerprints ")?;

@@ -7,7 +7,7 @@ use std::rt::Files;
 
 pub fn run<R: Files + Print + Eprint + RandomSource>(rt: &R) -> io::Result<()> {
     printing::text(rt, b"$ flushlist pack due.txt due.list\n")?;
-    if !pack::run(rt, "due.txt", "due.list")? {
+    if !pack::run(rt, b"due.txt", b"due.list")? {
         messages::usage(rt);
         return Ok(());
     }
@@ -27,5 +27,5 @@ fn asked<R: Files + Print + Eprint>(rt: &R, question: &[u8]) -> io::Result<()> {
     printing::text(rt, b"$ flushlist ask due.list ")?;
     printing::text(rt, question)?;
     printing::line_end(rt)?;
-    ask::run(rt, "due.list", line::read(question))
+    ask::run(rt, b"due.list", line::read(question))
 }

@@ -15,13 +15,19 @@ pub struct Seen {
 }
 
 // What the name itself is: at a link, the link.
-pub fn itself(rt: &impl Files, path: &str) -> Seen {
-    as_seen(fs::symlink_metadata(rt, path))
+pub fn itself(rt: &impl Files, path: &[u8]) -> Seen {
+    match str::from_utf8(path) {
+        Ok(name) => as_seen(fs::symlink_metadata(rt, name)),
+        Err(_) => unseen(),
+    }
 }
 
 // What the name leads to: at a link, what the link leads to.
-pub fn led_to(rt: &impl Files, path: &str) -> Seen {
-    as_seen(fs::metadata(rt, path))
+pub fn led_to(rt: &impl Files, path: &[u8]) -> Seen {
+    match str::from_utf8(path) {
+        Ok(name) => as_seen(fs::metadata(rt, name)),
+        Err(_) => unseen(),
+    }
 }
 
 // Something is there, and it is no plain file.
@@ -34,7 +40,7 @@ pub fn same(a: Seen, b: Seen) -> bool {
     a.found && b.found && a.device == b.device && a.number == b.number
 }
 
-// A name with a 0 in it is not found, nor is one that is too long: the system is asked of no other file.
+// A name with a 0 in it is not found, nor is one that is too long or not UTF-8: the system is asked of no other file.
 fn as_seen(answer: io::Result<Metadata>) -> Seen {
     match answer {
         Ok(known) => Seen {
@@ -43,11 +49,15 @@ fn as_seen(answer: io::Result<Metadata>) -> Seen {
             device: known.dev(),
             number: known.ino(),
         },
-        Err(_) => Seen {
-            found: false,
-            plain: false,
-            device: 0,
-            number: 0,
-        },
+        Err(_) => unseen(),
+    }
+}
+
+fn unseen() -> Seen {
+    Seen {
+        found: false,
+        plain: false,
+        device: 0,
+        number: 0,
     }
 }

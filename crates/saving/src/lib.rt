@@ -21,7 +21,7 @@ const PATH_MAX: usize = 4096;
 const NAME_ROOM: usize = PATH_MAX + 6 + DIGITS;
 
 // Whether a new file may take the list's name: nobody has it, or a plain file that is not the text. If not, it is said why.
-pub fn may_replace<R: Files + Eprint>(rt: &R, text: &str, list: &str) -> bool {
+pub fn may_replace<R: Files + Eprint>(rt: &R, text: &[u8], list: &[u8]) -> bool {
     let there = names::itself(rt, list);
     if names::special(there) {
         files::not_plain(rt, list);
@@ -29,7 +29,7 @@ pub fn may_replace<R: Files + Eprint>(rt: &R, text: &str, list: &str) -> bool {
     }
     if names::same(there, names::led_to(rt, text)) {
         files::say(rt, list);
-        files::say(rt, ": text and list are the same file\n");
+        files::say(rt, b": text and list are the same file\n");
         return false;
     }
     true
@@ -38,6 +38,21 @@ pub fn may_replace<R: Files + Eprint>(rt: &R, text: &str, list: &str) -> bool {
 // The two parts of a list under this name. They are written to a new file of another name, which then takes this one: so there is
 // never half a list under it, and no two runs write to one file.
 pub fn write<R: Files + Eprint + RandomSource>(
+    rt: &R,
+    path: &[u8],
+    head: &[u8],
+    body: &[u8],
+) -> bool {
+    match files::name(path) {
+        Ok(name) => write_beside(rt, name, head, body),
+        Err(why) => {
+            files::failed(rt, path, why);
+            false
+        }
+    }
+}
+
+fn write_beside<R: Files + Eprint + RandomSource>(
     rt: &R,
     path: &str,
     head: &[u8],
@@ -59,7 +74,7 @@ fn beside<R: Eprint + RandomSource>(rt: &R, path: &str) -> Option<ArrayString<NA
     }
     let mut drawn = [0u8; DIGITS];
     if let Err(why) = rt.fill_bytes(&mut drawn) {
-        files::failed(rt, "random digits", why);
+        files::failed(rt, b"random digits", why);
         return None;
     }
     let mut name = ArrayString::<NAME_ROOM>::new();
@@ -80,8 +95,8 @@ fn digit(byte: u8) -> char
 }
 
 fn long_name(rt: &impl Eprint, path: &str) {
-    files::say(rt, path);
-    files::say(rt, ": name too long\n");
+    files::say(rt, path.as_bytes());
+    files::say(rt, b": name too long\n");
 }
 
 // `create_new` takes no name that is there.
@@ -93,17 +108,17 @@ fn replace<R: Files + Eprint>(rt: &R, path: &str, part: &str, head: &[u8], body:
     let file = match made {
         Ok(file) => file,
         Err(why) => {
-            files::failed(rt, part, why);
+            files::failed(rt, part.as_bytes(), why);
             return false;
         }
     };
     if let Err(why) = put(file, head, body) {
-        files::failed(rt, part, why);
+        files::failed(rt, part.as_bytes(), why);
         remove(rt, part);
         return false;
     }
     if let Err(why) = fs::rename(rt, part, path) {
-        files::failed(rt, path, why);
+        files::failed(rt, path.as_bytes(), why);
         remove(rt, part);
         return false;
     }
@@ -112,9 +127,9 @@ fn replace<R: Files + Eprint>(rt: &R, path: &str, part: &str, head: &[u8], body:
 
 fn remove<R: Files + Eprint>(rt: &R, part: &str) {
     if let Err(why) = fs::remove_file(rt, part) {
-        files::failed(rt, part, why);
-        files::say(rt, part);
-        files::say(rt, ": left behind, and no list\n");
+        files::failed(rt, part.as_bytes(), why);
+        files::say(rt, part.as_bytes());
+        files::say(rt, b": left behind, and no list\n");
     }
 }
 
