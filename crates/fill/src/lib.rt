@@ -1,5 +1,4 @@
-// The fingerprints filled in from the keys that were taken, at each width: the language has no generics, so each width has its own code,
-// and the proofs of both cite the same laws.
+// The fingerprints filled in from the keys that were taken. Each width has its own code, and the proofs of both cite the same laws.
 #![tactic(auto)]
 
 mod eight;

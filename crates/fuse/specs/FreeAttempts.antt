@@ -101,8 +101,8 @@ attempt_fingerprints_length w keys i = fingerprints_length _ _ _ _ _ keys w
 pub attempt_accepts : (w : ℕ) (keys : List ℕ) (i : ℕ) → length keys ≤ max_keys
     → accepts (descriptor_at (length keys) i) (fingerprints_at w keys i) ≡ gives done
 attempt_accepts w keys i few =
-    let All-there = attempt_fingerprints_length w keys i ∙ sym (attempt_length i few) in
-    simp (attempt_accepted i few, eq-eqb (length (fingerprints_at w keys i)) (fingerprints_for (descriptor_at (length keys) i)) All-there)
+    let all_there = attempt_fingerprints_length w keys i ∙ sym (attempt_length i few) in
+    simp (attempt_accepted i few, eq-eqb (length (fingerprints_at w keys i)) (fingerprints_for (descriptor_at (length keys) i)) all_there)
 
 module _ (w : ℕ) (keys : List ℕ) (i : ℕ) (few : length keys ≤ max_keys) (is_free : free keys i ≡ true) (j : ℕ) (listed : j < length keys) where
   nothing_left : left_over w (descriptor_at (length keys) i) (fingerprints_at w keys i) (get_or keys j 0) ≡ 0

@@ -101,7 +101,7 @@ module _ (slots : ℕ → Slots) (hs : List ℕ) (n : ℕ) where
   pub going_take : (so_far : List Pick) (a : Sums) (s : ℕ) (stack : List ℕ) → ((i : ℕ) → i < length hs → Apart n (slots (get_or hs i 0)))
       → Going so_far a (s ∷ stack) → get_or a.counts s 0 ≡ 1 → Took so_far a stack (get_or a.hashes s 0) (get_or a.positions s 0)
   unfolding takes pop
-  going_take so_far a s stack All-apart g one = by g.turns g.enough g.rest
+  going_take so_far a s stack all_apart g one = by g.turns g.enough g.rest
     where
       h : ℕ
       h = get_or a.hashes s 0
@@ -116,13 +116,13 @@ module _ (slots : ℕ → Slots) (hs : List ℕ) (n : ℕ) where
       after = take_key (slots h) h p st
 
       key : Sole slots hs g.marks s
-      key = its_key slots hs n All-apart g.marks a s stack g.standing one
+      key = its_key slots hs n all_apart g.marks a s stack g.standing one
 
       is_hash : h ≡ get_or hs key.i 0
-      is_hash = hash_is slots hs n All-apart g.marks a s stack g.standing one
+      is_hash = hash_is slots hs n all_apart g.marks a s stack g.standing one
 
       is_position : p ≡ key.place.position
-      is_position = position_is slots hs n All-apart g.marks a s stack g.standing one
+      is_position = position_is slots hs n all_apart g.marks a s stack g.standing one
 
       by : (turns : ℕ) → length (s ∷ stack) + many a.counts ≤ turns → Rest so_far a (s ∷ stack) turns → Took so_far a stack h p
       by zero le e = absurd (omega arith)
@@ -132,13 +132,13 @@ module _ (slots : ℕ → Slots) (hs : List ℕ) (n : ℕ) where
             who_low = key.low;
             hash_is = is_hash;
             small = rw is_position key.place.small;
-            apart = rw is_hash (All-apart key.i key.low);
-            more = omega (arith, picks_at_most slots hs n All-apart, ap length parts, length-append so_far (pick h p ∷ takes slots turns after));
-            touched = λ q. rw is_hash (slots_touched slots hs n All-apart g.marks a s stack g.standing one q);
+            apart = rw is_hash (all_apart key.i key.low);
+            more = omega (arith, picks_at_most slots hs n all_apart, ap length parts, length-append so_far (pick h p ∷ takes slots turns after));
+            touched = λ q. rw is_hash (slots_touched slots hs n all_apart g.marks a s stack g.standing one q);
             then = record {
               marks = without g.marks key.i;
               standing = subst₂ (λ (x y : ℕ). let next = take_key (slots x) x y st in Standing slots hs n (without g.marks key.i) next.sums next.stack)
-                  (sym is_hash) (sym is_position) (standing_after slots hs n All-apart g.marks a s stack g.standing one);
+                  (sym is_hash) (sym is_position) (standing_after slots hs n all_apart g.marks a s stack g.standing one);
               turns = turns;
               enough = omega (arith, take-work (slots h) h p st);
               room = omega (arith, take-work (slots h) h p st, g.room);

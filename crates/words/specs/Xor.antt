@@ -1,4 +1,4 @@
--- The xor of two numbers: the laws that `lib.Bits` has not. Assumes nothing.
+-- The xor of two numbers: the laws that the library has not. Assumes nothing.
 use Rattle.std.specs.Prelude.{◌≡◌, ℕ, zero, suc, ◌+◌, ◌*◌, ◌/◌, ◌%◌, ◌^◌, ◌<◌, bit_xor, refl}
 use Rattle.std.proofs.Common.{sym, ap, ap₂, ◌∙◌, mod-lt, arith}
 use Rattle.std.proofs.Math.Nat.{div-eq_of_lt}
