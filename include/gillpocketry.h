@@ -71,18 +71,19 @@
  * A query needs the list alone: 20 + A bytes with 8 bits, 20 + 2 A with 16.
  *
  *   stack                          x86-64    aarch64
- *   a build                        16,944     17,024
- *   a query, or the flush key           8         32
+ *   a build                           568     17,024
+ *   a query, or the flush key          32         32
  *
  * CODE AND TABLES, in bytes. An archive has a section for each function, so a program that is linked with
  * -Wl,--gc-sections gets only what it calls. Without that word it gets all five:
  *
  *                                  x86-64    aarch64
- *   the 8-bit query alone             319        328
- *   both queries and the flush key    783        764
- *   all five                       37,132     37,712
+ *   the 8-bit query alone             367        328
+ *   both queries and the flush key    879        764
+ *   all five                       22,545     37,712
  *
- * A build needs a table of 16,384 bytes, which is counted here, and copies it to the stack.
+ * A build needs a table of 16,384 bytes, which is counted here. The numbers for aarch64 are of an archive that an
+ * older kit made, in which a build copies the table to the stack; they were not measured again.
  *
  * BUFFERS
  *
