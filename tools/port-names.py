@@ -2,11 +2,11 @@
 # Brings the repository's own antt names to today's spelling, once, after the kit's port.py: words in snake case, and a dash only
 # where it joins two names, as in `low-length`. Names of functions of src/, of files and of the kit stay as they are.
 #
-# usage: tools/port-names.py          at the top of the repository
+# usage: tools/port-names.py          at the top of the repository; it runs no second time
 #
 # A name is one of ours where specs/ or a file directly in proofs/ defines it. It is changed wherever it stands as a whole word: in antt,
 # in clauses, in must-fail edits, and between backticks in the pages.
-import glob, re, sys
+import glob, os, re, sys
 
 word = re.compile(r'[^\s(){}\[\];,."`@]+')
 head = re.compile(r'^\s*(?P<kind>abbrev pub|abbrev|unfoldable pub|unfoldable|pub)?\s*(?P<name>[^\s(){}\[\];,."`@:]+) :(?= |$)')
@@ -62,6 +62,8 @@ def respelled():
     return changed, names, theirs
 
 def main():
+    if os.path.exists('docs/PORT.md'):
+        sys.exit('port-names: the names have been changed here (docs/PORT.md)')
     changed, names, theirs = respelled()
     told = {}
     for old, new in changed.items():
