@@ -1,6 +1,6 @@
 -- `descriptor::check` meets its contract: each test is one of the checks, and the mask of a good length gives the remainder.
 -- Assumes nothing.
-use Rattle.std.proofs.Common.{◌≡◌, ◌∙◌, sym, ℕ, ◌*◌, ◌+◌, Bool, true, arith, eq-eqb, ne_eqb, lt-ltb, le-ltb}
+use Rattle.std.proofs.Common.{◌≡◌, refl, ◌∙◌, sym, ℕ, ◌*◌, ◌+◌, Bool, true, arith, eq-eqb, ne_eqb, lt-ltb, le-ltb}
 use Rattle.descriptor.specs.Descriptor.{is_length, longest, bad_count, check_of}
 use Rattle.descriptor.specs.Lengths.{SegmentLength, length_of, at_least, at_most}
 use Rattle.descriptor.specs.Masks.{mask_mod}
@@ -12,14 +12,14 @@ length_at e t = length_of (sym e ∙ t)
 
 pub returns-then-not-is_length : goal.returns-then-not-is_length
 unfolding check_of
-returns-then-not-is_length c = simp (sym c.is_length.ensures ∙ c.if-not-is_length.true)
+returns-then-not-is_length c = simp (sym c.is_length.ensures ∙ c.if-not-is_length.true) refl
 
 pub overflow_sub-size : goal.overflow_sub-size
 overflow_sub-size c = omega (arith, at_least (length_at c.is_length.ensures c.if-not-is_length.false))
 
 pub returns-then-mask-size : goal.returns-then-mask-size
 unfolding check_of
-returns-then-mask-size c = simp (sym c.is_length.ensures ∙ c.if-not-is_length.false, ne_eqb _ _ c.if-mask-size.true)
+returns-then-mask-size c = simp (sym c.is_length.ensures ∙ c.if-not-is_length.false, ne_eqb _ _ c.if-mask-size.true) refl
 
 pub returns-then-count-eq0 : goal.returns-then-count-eq0
 unfolding check_of bad_count
