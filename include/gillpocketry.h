@@ -31,8 +31,8 @@
  *   tools/archive           makes target/archive/x86_64/libgillpocketry.a
  *   tools/archive aarch64   makes target/archive/aarch64/libgillpocketry.a
  *
- * The first is for Linux on x86-64, as the Rattle kit makes it. The second is for Linux on 64-bit ARM. It is
- * made by the same compiler, from the same module, but by another back end.
+ * The first is for Linux on x86-64, the second for Linux on 64-bit ARM. The Rattle kit makes both, from the same
+ * proved source, the second by another back end of its compiler.
  *
  * There is no archive for controllers of 32 bits yet. Of the C library an archive needs memset alone. It has
  * no data that is written.

@@ -1,5 +1,4 @@
-// Products of 64-bit words, where the language has no wider type to hold them. Each step is a product of two numbers of
-// 32 bits, so none of them overflows.
+// Products of 64-bit words, in steps of 64 bits. Each step is a product of two numbers of 32 bits, so none of them overflows.
 #![tactic(auto)]
 
 ghost use Rattle.std.specs.Prelude.{◌≡◌, ◌*◌, ◌/◌, ◌%◌, ◌^◌};
