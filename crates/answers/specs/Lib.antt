@@ -3,4 +3,6 @@ pub mod Checks
 pub mod Passed
 pub mod OneNumber
 pub mod OneAnswer
+pub mod Paper
+pub mod OneReading
 pub mod Never

@@ -1,11 +1,11 @@
 -- A call that gives a value passed every check before it. Assumes nothing.
 use Rattle.std.specs.Prelude.{ℕ, ◌≡◌, refl, Bool, true, false}
-use Rattle.std.proofs.Common.{arith}
 use Rattle.answers.specs.Answers.{Answer, refuses, gives, Outcome}
 use Rattle.answers.specs.Checks.{Done, done, refuse_if, ◌then◌, unless_refused}
+use Rattle.answers.specs.Never.{never}
 
 pub never_both : {A : Type 0} {number : ℕ} {value : A} → refuses number ≡ gives value → ⊥
-never_both e = let z : ◌≡◌ {A = ℕ} 0 1 = cc in omega arith
+never_both e = never cc
 
 pub no_fault : (fault : Bool) (number : ℕ) → refuse_if fault number ≡ gives done → fault ≡ false
 no_fault true number e = absurd (never_both e)

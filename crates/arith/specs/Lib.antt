@@ -9,3 +9,5 @@ pub mod OneToOne
 pub mod Spread
 pub mod SeedBound
 pub mod FingerprintLow
+pub mod Numbers
+pub mod XorAt

@@ -4,6 +4,7 @@ ghost use Rattle.arith.specs.Murmur3.{mix64_of, hash_of};
 
 use words::wrapping_mul;
 
+#[tactic(auto, unfolding(crate::specs::Murmur3::mix64_of, crate::specs::Steps::xorshift, crate::specs::Steps::times))]
 pub fn mix64(key: u64) -> u64
     ensures { result ≡ mix64_of key }
 {
@@ -13,8 +14,9 @@ pub fn mix64(key: u64) -> u64
 }
 
 // The hash of a key under a seed.
+#[tactic(auto, unfolding(crate::specs::Murmur3::hash_of))]
 pub fn mix(key: u64, seed: u64) -> u64
     ensures { result ≡ hash_of key seed }
 {
-    mix64(std::num::wrapping_add_u64(key, seed))
+    mix64(key.wrapping_add(seed))
 }

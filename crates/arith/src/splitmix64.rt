@@ -5,6 +5,7 @@ ghost use Rattle.arith.specs.SplitMix64.{output_of, seed_of};
 use words::wrapping_mul;
 
 // What the generator puts out at a state.
+#[tactic(auto, unfolding(crate::specs::SplitMix64::output_of, crate::specs::Steps::xorshift, crate::specs::Steps::times))]
 pub fn output(state: u64) -> u64
     ensures { result ≡ output_of state }
 {
@@ -18,5 +19,5 @@ pub fn seed(attempt: u32) -> u64
     ensures { result ≡ seed_of attempt }
 {
     let steps = wrapping_mul(attempt as u64, 0x9e37_79b9_7f4a_7c15);
-    output(std::num::wrapping_add_u64(1, steps))
+    output(steps.wrapping_add(1))
 }

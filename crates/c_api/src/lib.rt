@@ -10,9 +10,10 @@ ghost use Rattle.c_api.specs.BuildTold.{build_told, told_build};
 ghost use Rattle.c_api.specs.Telling.{CanTell, Tells};
 ghost use Rattle.plan.specs.Paper.{paper};
 
+use answers::Refusal;
 use descriptor::DESCRIPTOR_SIZE;
-use flush::KeyAnswer;
-use plan::BuildAnswer;
+use plan::Built;
+use scratch::Scratch;
 
 // A refusal by a build is this and its number, so that no attempt number is like one.
 const BUILD_REFUSED: u32 = 0x1_0000;
@@ -39,31 +40,31 @@ pub extern "C" fn gp_fuse16_contains(descriptor: &[u8], fingerprints: &[u16], ke
 pub extern "C" fn gp_flush_key(unit: u16, valve: u8, seconds: i64, key: &mut u64) -> u32
     ensures { key_told result key.new ≡ told_key (flush_key_of unit valve seconds) key.old }
 {
-    let answer = flush::flush_key(unit, valve, seconds);
-    match answer {
-        KeyAnswer::Key(made) => {
+    match flush::flush_key(unit, valve, seconds) {
+        Ok(made) => {
             *key = made;
             0
         }
-        KeyAnswer::Refused(why) => answers::code(why),
+        Err(why) => why.code(),
     }
 }
 
 // The number that C is told of a build's answer. Where a list was built, its descriptor's twenty bytes are written.
-fn tell(answer: BuildAnswer, descriptor: &mut [u8]) -> u32
+fn tell(answer: Result<Built, Refusal>, descriptor: &mut [u8]) -> u32
     requires { CanTell (paper answer) descriptor.old }
     ensures { Tells (paper answer) descriptor.old result descriptor.new }
 {
     match answer {
-        BuildAnswer::Built(d, _, attempt) => {
-            descriptor::write(d, descriptor);
-            attempt
+        Ok(built) => {
+            descriptor::write(built.descriptor, descriptor).unwrap();
+            built.attempt
         }
-        BuildAnswer::Refused(why) => BUILD_REFUSED + answers::number(why),
+        Err(why) => BUILD_REFUSED + why.number(),
     }
 }
 
 // Packs the keys and answers the attempt number, with the descriptor's twenty bytes written; a refusal leaves that room as it was.
+// The C interface lends the scratch as six slices, and has a function for each width.
 #[unsafe(no_mangle)]
 pub extern "C" fn gp_fuse8_build(
     keys: &[u64],
@@ -82,17 +83,15 @@ pub extern "C" fn gp_fuse8_build(
     if descriptor.len() < DESCRIPTOR_SIZE {
         return ROOM_REFUSED;
     }
-    let answer = bfuse8::build(
-        keys,
-        limit,
-        fingerprints,
+    let mut scratch = Scratch {
         lone,
         counts,
         sums,
         positions,
         order,
         starts,
-    );
+    };
+    let answer = bfuse8::build(keys, limit, fingerprints, &mut scratch);
     tell(answer, descriptor)
 }
 
@@ -115,16 +114,14 @@ pub extern "C" fn gp_fuse16_build(
     if descriptor.len() < DESCRIPTOR_SIZE {
         return ROOM_REFUSED;
     }
-    let answer = bfuse16::build(
-        keys,
-        limit,
-        fingerprints,
+    let mut scratch = Scratch {
         lone,
         counts,
         sums,
         positions,
         order,
         starts,
-    );
+    };
+    let answer = bfuse16::build(keys, limit, fingerprints, &mut scratch);
     tell(answer, descriptor)
 }

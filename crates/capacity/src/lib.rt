@@ -4,6 +4,7 @@
 ghost use Rattle.std.specs.Prelude.{◌≡◌, ◌≤◌};
 ghost use Rattle.capacity.specs.Capacity.{Capacity, max_keys};
 
+// A constant u16 table is the form that docs/DECISIONS.md names for the capacities, and tools/capacities writes it.
 mod table;
 
 use table::CAPACITIES;
@@ -21,12 +22,5 @@ pub fn capacity(n: u32) -> u32
     requires { n ≤ max_keys }
     ensures { Capacity n result }
 {
-    wide(CAPACITIES[n as usize])
-}
-
-// The same number in 32 bits.
-fn wide(x: u16) -> u32
-    ensures { result ≡ x }
-{
-    x as u32
+    u32::from(CAPACITIES[n as usize])
 }

@@ -1,8 +1,8 @@
 -- What checks 8 to 10 accept: exactly the descriptors with L = 2 ^ e for an e in 2..18, mask L - 1, and a count length that is a
 -- positive multiple of L and leaves room for 2L more. Assumes nothing.
-use Rattle.std.specs.Prelude.{◌≡◌, refl, Bool, true, false, not, ◌||◌, ◌+◌, ◌-◌, ◌*◌, ◌%◌, ◌≤◌, ◌<◌, eqb, ltb}
-use Rattle.std.proofs.Common.{sym, arith, eq-eqb, ne_eqb, le-ltb, eqb-true, ltb-false}
-use Rattle.std.proofs.lemmas.Bool.{false≢true, eqb-false, not-false}
+use Rattle.std.specs.Prelude.{◌≡◌, not, ◌||◌, ◌+◌, ◌-◌, ◌*◌, ◌%◌, ◌≤◌, ◌<◌, eqb, ltb}
+use Rattle.std.proofs.Common.{arith, eq-eqb, ne_eqb, le-ltb, eqb-true, ltb-false}
+use Rattle.std.proofs.lemmas.Bool.{eqb-false, not-false, or_parts}
 use Rattle.answers.specs.Answers.{gives}
 use Rattle.answers.specs.Checks.{done, refuse_if, ◌then◌}
 use Rattle.answers.specs.Passed.{no_fault, passed_first}
@@ -17,10 +17,6 @@ pub record Accepted (d : Descriptor) : Type 0 where
   pub multiple : d.segment_count_length % d.segment_length ≡ 0
   pub fits : d.segment_count_length + 2 * d.segment_length ≤ longest
 
-neither : (a b : Bool) → a || b ≡ false → (a ≡ false) × (b ≡ false)
-neither true b t = absurd (false≢true (sym t))
-neither false b t = (refl, t)
-
 pub accepted : (d : Descriptor) → check_of d ≡ gives done → Accepted d
 unfolding check_of bad_count
 accepted d e =
@@ -30,8 +26,8 @@ accepted d e =
     let tenth = refuse_if (bad_count l count) 10 in
     let past8 = passed_first (not (is_length l)) 8 (refuse_if (not (eqb mask (l - 1))) 9 then tenth) done e in
     let past9 = passed_first (not (eqb mask (l - 1))) 9 tenth done past8.1 in
-    let some = neither (eqb count 0) (not (eqb (count % l) 0) || ltb longest (count + 2 * l)) (no_fault (bad_count l count) 10 past9.1) in
-    let whole = neither (not (eqb (count % l) 0)) (ltb longest (count + 2 * l)) some.1 in
+    let some = or_parts (eqb count 0) (not (eqb (count % l) 0) || ltb longest (count + 2 * l)) (no_fault (bad_count l count) 10 past9.1) in
+    let whole = or_parts (not (eqb (count % l) 0)) (ltb longest (count + 2 * l)) some.1 in
     record {
       length = length_of (not-false (is_length l) past8.0);
       mask = eqb-true mask (l - 1) (not-false (eqb mask (l - 1)) past9.0);

@@ -1,7 +1,7 @@
 -- A segment length that passes check 8 is 2 ^ e with 2 ≤ e ≤ 18, and each of these passes. Assumes nothing.
-use Rattle.std.specs.Prelude.{◌≡◌, refl, Bool, true, false, ◌&&◌, ◌||◌, ℕ, zero, suc, ◌^◌, ◌≤◌, eqb, leb}
-use Rattle.std.proofs.Common.{ap, ap₂, ◌∙◌, ⊎_elim, arith, le_refl, le_of_suc-le-suc, eq-or-lt_of_le, lt_of_not-le, eq-eqb, eqb-true, le-leb, leb-true, pow_mono}
-use Rattle.std.proofs.lemmas.Bool.{false≢true}
+use Rattle.std.specs.Prelude.{◌≡◌, true, false, ℕ, zero, suc, ◌^◌, ◌≤◌, eqb, leb}
+use Rattle.std.proofs.Common.{ap, ◌∙◌, ⊎_elim, arith, le_refl, le_of_suc-le-suc, eq-or-lt_of_le, lt_of_not-le, eq-eqb, eqb-true, le-leb, leb-true, pow_mono}
+use Rattle.std.proofs.lemmas.Bool.{and_from, and_parts, false_from_ne_true, or_cases, or_left, or_right}
 use Rattle.descriptor.specs.Descriptor.{is_power, last_exponent, is_length}
 
 pub record SegmentLength (l : ℕ) : Type 0 where
@@ -26,31 +26,22 @@ record PowerTo (last l : ℕ) : Type 0 where
 power_of : (last l : ℕ) → is_power last l ≡ true → PowerTo last l
 power_of zero l t = record { exponent = 0; to = le_refl 0; is = eqb-true l (2 ^ 0) t }
 power_of (suc last) l t =
-    elim (eqb l (2 ^ suc last)) as (λ b. eqb l (2 ^ suc last) ≡ b → b || is_power last l ≡ true → PowerTo (suc last) l) [
-      | true ↦ λ q r. record { exponent = suc last; to = le_refl (suc last); is = eqb-true l (2 ^ suc last) q }
-      | false ↦ λ q r. let p = power_of last l r in record { exponent = p.exponent; to = omega (arith, p.to); is = p.is }
-    ] refl t
-
-or_right : (a : Bool) {b : Bool} → b ≡ true → a || b ≡ true
-or_right true q = refl
-or_right false q = q
+    ⊎_elim (λ q. record { exponent = suc last; to = le_refl (suc last); is = eqb-true l (2 ^ suc last) q })
+    (λ r. let p = power_of last l r in record { exponent = p.exponent; to = omega (arith, p.to); is = p.is })
+    (or_cases (eqb l (2 ^ suc last)) (is_power last l) t)
 
 is_power_lem : (last l e : ℕ) → e ≤ last → l ≡ 2 ^ e → is_power last l ≡ true
 is_power_lem zero l e h q = let e0 : e ≡ 0 = omega arith in eq-eqb l (2 ^ 0) (q ∙ ap (λ (x : ℕ). 2 ^ x) e0)
 is_power_lem (suc last) l e h q =
-    ⊎_elim (λ w. simp (eq-eqb l (2 ^ suc last) (q ∙ ap (λ (x : ℕ). 2 ^ x) w)))
-    (λ w. or_right (eqb l (2 ^ suc last)) (is_power_lem last l e (le_of_suc-le-suc w) q)) (eq-or-lt_of_le h)
+    ⊎_elim (λ w. or_left _ (is_power last l) (eq-eqb l (2 ^ suc last) (q ∙ ap (λ (x : ℕ). 2 ^ x) w)))
+    (λ w. or_right (eqb l (2 ^ suc last)) _ (is_power_lem last l e (le_of_suc-le-suc w) q)) (eq-or-lt_of_le h)
 
 -- ---- and those from 4 on
-
-both : (a b : Bool) → a && b ≡ true → (a ≡ true) × (b ≡ true)
-both true b t = (refl, t)
-both false b t = absurd (false≢true t)
 
 pub length_of : {l : ℕ} → is_length l ≡ true → SegmentLength l
 unfolding is_length
 length_of {l} t =
-    let parts = both (leb 4 l) (is_power last_exponent l) t in
+    let parts = and_parts (leb 4 l) (is_power last_exponent l) t in
     let p = power_of last_exponent l parts.1 in
     record {
       exponent = p.exponent;
@@ -61,7 +52,7 @@ length_of {l} t =
 
 pub is_length_lem : {l : ℕ} → SegmentLength l → is_length l ≡ true
 unfolding is_length
-is_length_lem {l} p = ap₂ (λ (a b : Bool). a && b) (le-leb 4 l (at_least p)) (is_power_lem last_exponent l p.exponent p.to p.is)
+is_length_lem {l} p = and_from (leb 4 l) _ (le-leb 4 l (at_least p)) (is_power_lem last_exponent l p.exponent p.to p.is)
 
 pub no_length : (l : ℕ) → (SegmentLength l → ⊥) → is_length l ≡ false
-no_length l h = elim (is_length l) as (λ b. is_length l ≡ b → b ≡ false) [ true ↦ λ t. absurd (h (length_of t)) | false ↦ λ t. refl ] refl
+no_length l h = false_from_ne_true (is_length l) (λ t. h (length_of t))

@@ -1,5 +1,4 @@
 pub mod Descriptor
-pub mod Paper
 pub mod Lengths
 pub mod Masks
 pub mod SameFields

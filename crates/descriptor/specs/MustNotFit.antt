@@ -4,6 +4,7 @@ use Rattle.std.specs.Prelude.{◌≡◌, refl, List, ℕ, replicate, get_or}
 use Rattle.std.proofs.Common.{sym, ap, ◌∙◌, arith}
 use Rattle.answers.specs.Answers.{Outcome}
 use Rattle.answers.specs.Checks.{Done}
+use Rattle.answers.specs.Never.{never}
 use Rattle.descriptor.specs.declared.Descriptor.{Descriptor}
 use Rattle.descriptor.specs.Descriptor.{is_length, bad_count, check_of, write_of}
 use Rattle.descriptor.specs.RoundTrip.{Sized}
@@ -26,4 +27,4 @@ pub some_room_written : (program : Descriptor → (room : List ℕ) → Outcome 
 some_room_written program fits alone =
     let left = ap (λ (o : Outcome Done (List ℕ)). get_or o.leaves 0 0) (fits good (replicate 20 0) good_sized) in
     let same = ap (λ (l : List ℕ). get_or l 0 0) (alone good (replicate 20 0) good_sized) in
-    absurd (let z : ◌≡◌ {A = ℕ} 1 0 = sym seed_written ∙ sym left ∙ same in omega arith)
+    never (sym same ∙ left ∙ seed_written)

@@ -1,28 +1,35 @@
 -- What the clock answers, by the word's first byte. Assumes nothing.
-use Prim.Native.Nat.{ℕ, suc, ◌-◌}
+use Prim.Native.Nat.{ℕ}
 use mathlib.Core.Path.{◌≡◌, refl}
-use mathlib.Core.Bool.{true, false}
+use mathlib.Core.Bool.{Bool, true, false, cond, ◌&&◌}
 use mathlib.Core.List.{List, [], ◌∷◌}
-use native.Mathlib.Omega.{arith}
-use lib.ListN.{length, get_or, take, drop}
-use lib.Seq.{take_all}
-use borrow.Author.Tests.{eq-eqb, ne_eqb}
+use lib.ListN.{take, drop}
+use lib.Dec.{eqb}
+use Rattle.std.specs.Prelude.{nat_eq}
+use Rattle.std.specs.Cmp.Lexicographic.{pointwise}
 use Rattle.due_text.specs.Decimal.{number_of}
 use Rattle.due_text.specs.Clock.{clock_at, clock_of}
-use Rattle.due_text.specs.declared.clock.Clock.TheVariants.{NotDigits}
 
-pub empty_word : (word : List ℕ) → length word ≡ 0 → NotDigits ≡ clock_of word
+-- digits that stand behind a minus sign, and a word with none
+pub with_minus : (word digits : List ℕ) → pointwise nat_eq (take 1 word) (45 ∷ []) ≡ true → digits ≡ drop 1 word
+    → clock_of word ≡ clock_at true (number_of digits)
 unfolding clock_of
-empty_word [] e = refl
-empty_word (byte ∷ rest) e = absurd (omega arith)
+with_minus [] digits s d = cc
+with_minus (byte ∷ rest) digits s d = rw d (by (eqb byte 45) s)
+  where
+    by : (minus : Bool) → (minus && true) ≡ true
+        → cond minus (clock_at true (number_of rest)) (clock_at false (number_of (byte ∷ rest))) ≡ clock_at true (number_of rest)
+    by true s = refl
+    by false s = cc
 
-pub after_minus : (word : List ℕ) → (length word ≡ 0 → ⊥) → get_or word 0 0 ≡ 45
-    → clock_at true (number_of (take (length word - 1) (drop 1 word))) ≡ clock_of word
-unfolding clock_of
-after_minus [] some e = absurd (some refl)
-after_minus (byte ∷ rest) some e = rw (eq-eqb byte 45 e, take_all (suc (length rest) - 1) rest (omega arith))
+pub without_minus : (word : List ℕ) → pointwise nat_eq (take 1 word) (45 ∷ []) ≡ false → clock_of word ≡ clock_at false (number_of word)
+unfolding clock_of number_of
+without_minus [] s = refl
+without_minus (byte ∷ rest) s = by (eqb byte 45) s
+  where
+    by : (minus : Bool) → (minus && true) ≡ false
+        → cond minus (clock_at true (number_of rest)) (clock_at false (number_of (byte ∷ rest))) ≡ clock_at false (number_of (byte ∷ rest))
+    by true s = cc
+    by false s = refl
 
-pub without-minus : (word : List ℕ) → (length word ≡ 0 → ⊥) → (get_or word 0 0 ≡ 45 → ⊥) → clock_at false (number_of word) ≡ clock_of word
-unfolding clock_of
-without-minus [] some e = absurd (some refl)
-without-minus (byte ∷ rest) some e = rw (ne_eqb byte 45 e)
+pub ruleset signs = (with_minus, without_minus)

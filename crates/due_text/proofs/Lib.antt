@@ -1,7 +1,9 @@
+pub mod Bounds
 pub mod Clocks
 pub mod Comment
-pub mod Cutting
 pub mod Digits
-pub mod NextWords
-pub mod Numbers
+pub mod Lines
+pub mod Pieces
 pub mod SoFar
+pub mod Stored
+pub mod Words

@@ -1,121 +1,102 @@
 -- The lines read so far, their keys in the first places of the room, and those to come. Assumes nothing.
-use Prim.Native.Nat.{ℕ, suc, ◌+◌, ◌-◌, ◌≤◌, ◌<◌, min}
-use mathlib.Core.Path.{◌≡◌, sym, ap, ◌∙◌}
-use mathlib.Core.Bool.{true, false}
-use mathlib.Core.List.{List, [], ◌∷◌, ◌++◌}
-use native.Mathlib.Decide.{dec_le}
-use native.Mathlib.Numerals.{add-one}
-use native.Mathlib.Omega.{arith}
-use lib.ListN.{length, set, take, drop, length-set, length-drop, drop_of_length-le, take-append-drop}
-use lib.Seq.{length-take-le, drop-drop, take-suc-set, drop-set-lt}
-use borrow.Author.Tests.{eq-eqb, ne_eqb}
-use Rattle.answers.specs.declared.Refusal.TheVariants.{RepeatedKeys}
+use Rattle.std.proofs.Common.{◌≡◌, refl, sym, ap, ◌∙◌, ℕ, ◌+◌, ◌-◌, ◌≤◌, ◌<◌, Bool, true, false, cond, List, [], ◌∷◌, ◌++◌, inl, inr, length, take, drop, get_or, eqb, add-one, arith, drop-cons}
+use Rattle.std.specs.Prelude.{Option, Some, None, Result, Ok, Err, MatchResult}
+use Rattle.std.specs.List.{slice_split}
+use Rattle.std.proofs.Math.Seq.{length-take-le, drop-drop}
+use Rattle.std.proofs.lemmas.List.{take-append-drop}
+use Rattle.std.proofs.Math.ListN.{drop_of_length-le}
 use Rattle.repeats.specs.Repeats.{among?}
-use Rattle.due_text.specs.Cut.{cut, newline?, lines_of}
-use Rattle.due_text.specs.Runs.{run}
+use Rattle.due_text.specs.Cut.{cut, newline?, lines_of, before_comment}
 use Rattle.due_text.specs.Line.{line_of}
-use Rattle.due_text.specs.Keys.{KeysOutcome, keys_outcome, after_line, read_lines, in_room, keys_of}
+use Rattle.due_text.specs.Keys.{KeysOutcome, keys_outcome, bad, after_line, read_lines, in_room}
+use Rattle.due_text.specs.Stored.{GoesOn, Stops}
+use Rattle.due_text.specs.declared.keys.BadLine.{BadLine}
 use Rattle.due_text.specs.declared.line.Fault.{Fault}
-use Rattle.due_text.specs.declared.line.Fault.TheVariants.{Refused, TooManyKeys}
-use Rattle.due_text.specs.declared.line.Line.{Line}
-use Rattle.due_text.specs.declared.line.Line.TheVariants as line
-use Rattle.due_text.specs.declared.keys.KeysAnswer.{KeysAnswer}
-use Rattle.due_text.specs.declared.keys.KeysAnswer.TheVariants.{Read, Bad}
-use Rattle.due_text.proofs.Cutting.{first_piece}
+use Rattle.due_text.proofs.Pieces.{cut_as_split}
 
-drop_min : (n : ℕ) (text : List ℕ) → drop (min n (length text)) text ≡ drop n text
-drop_min n text = by (dec_le n (length text))
+-- what one line answers, with its number
+abbrev pub at_line : (number : ℕ) → Result ℕ Fault → Result ℕ BadLine
+at_line number (Ok count) = Ok count
+at_line number (Err why) = bad number why
+
+-- an empty line at the end says nothing
+last_line : (size number : ℕ) (keys : List ℕ) (lines : List (List ℕ)) → read_lines size number keys (lines ++ [] ∷ []) ≡ read_lines size number keys lines
+unfolding read_lines line_of before_comment cut
+last_line size number keys [] = refl
+last_line size number keys (line ∷ more) = by (line_of line) (λ after. last_line size (number + 1) after more)
   where
-    by : Dec (n ≤ length text) → drop (min n (length text)) text ≡ drop n text
-    by (yes h) = let near : min n (length text) ≡ n = omega arith in ap (λ (k : ℕ). drop k text) near
-    by (no h) =
-        let far : length text ≤ n = omega arith in
-        drop_of_length-le text {i = min n (length text)} (omega arith) ∙ sym (drop_of_length-le text {i = n} far)
+    then : (full again : Bool) (stop stop' : KeysOutcome) {go go' : KeysOutcome} → go ≡ go' → cond full stop (cond again stop' go) ≡ cond full stop (cond again stop' go')
+    then true again stop stop' e = refl
+    then false true stop stop' e = refl
+    then false false stop stop' e = e
 
--- the text cut at the next newline, which is passed
-next_line : (text : List ℕ) (at end : ℕ) → at < length text → end ≡ at + run newline? (drop at text)
-    → lines_of (drop at text) ≡ take (end - at) (drop at text) ∷ lines_of (drop (min (end + 1) (length text)) text)
-next_line text at end h e =
-    let rest = drop at text in
-    let k = run newline? rest in
-    let long : end - at ≡ k = omega arith in
-    let behind : at + suc k ≡ end + 1 = omega arith in
-    rw (long, drop_min (end + 1) text, ← behind, ← drop-drop (suc k) at text) (first_piece newline? rest (omega (arith, length-drop at text)))
+    by : (said : Result (Option ℕ) Fault) {next next' : List ℕ → KeysOutcome} → ((after : List ℕ) → next after ≡ next' after)
+        → after_line size number keys said next ≡ after_line size number keys said next'
+    by (Ok None) same = same keys
+    by (Err why) same = refl
+    by (Ok (Some key)) same = then (eqb (length keys) size) (among? key keys) _ _ (same (keys ++ key ∷ []))
 
-module _ (text room₀ : List ℕ) where
+pub split_or_cut : (size : ℕ) (text : List ℕ) → read_lines size 1 [] (slice_split newline? text) ≡ read_lines size 1 [] (lines_of text)
+split_or_cut size text = elim (cut_as_split newline? text) [
+  | inl e ↦ ap (read_lines size 1 []) e
+  | inr e ↦ ap (read_lines size 1 []) e ∙ last_line size 1 [] (lines_of text)
+]
+
+module _ (pieces : List (List ℕ)) (room₀ : List ℕ) where
   -- the whole text, read from the front
   abbrev whole : KeysOutcome
-  whole = read_lines (length room₀) 1 [] (lines_of text)
+  whole = read_lines (length room₀) 1 [] pieces
 
-  -- after `number` lines, up to the place `at`, with `count` keys
-  pub record SoFar (room : List ℕ) (at number count : ℕ) : Type 0 where
-    pub few : number ≤ at
-    pub within : at ≤ length text
+  -- after some of the pieces that the text is split into, with `count` keys
+  pub record SoFar (room : List ℕ) (seen count : ℕ) : Type 0 where
     pub places : count ≤ length room
     pub same_room : length room ≡ length room₀
     pub untouched : drop count room ≡ drop count room₀
-    pub to_come : read_lines (length room₀) (number + 1) (take count room) (lines_of (drop at text)) ≡ whole
+    pub to_come : read_lines (length room₀) (seen + 1) (take count room) (drop seen pieces) ≡ whole
 
-module _ {text room₀ room : List ℕ} {at number count : ℕ} (s : SoFar text room₀ room at number count) where
+-- what is as it was from a place on is so further on
+further : (xs ys : List ℕ) (n k : ℕ) → n ≤ k → drop n xs ≡ drop n ys → drop k xs ≡ drop k ys
+further xs ys n k h e =
+    let split : n + (k - n) ≡ k = omega arith in
+    ap (λ (i : ℕ). drop i xs) (sym split) ∙ sym (drop-drop (k - n) n xs) ∙ ap (drop (k - n)) e ∙ drop-drop (k - n) n ys ∙ ap (λ (i : ℕ). drop i ys) split
+
+module _ {pieces : List (List ℕ)} {room₀ room : List ℕ} {seen count : ℕ} (s : SoFar pieces room₀ room seen count) where
   -- what is answered now is answered of the whole text
-  stops : {a : KeysAnswer} → keys_outcome a (take count room) ≡ whole text room₀ → keys_outcome a room ≡ keys_of text room₀
-  unfolding keys_of
-  stops {a} e =
+  answered : {answer : Result ℕ BadLine} → keys_outcome answer (take count room) ≡ whole pieces room₀
+      → keys_outcome answer room ≡ in_room room₀ (whole pieces room₀)
+  answered {answer} e =
       let kept : take count room ++ drop count room₀ ≡ room = rw (← s.untouched) (take-append-drop count room) in
-      ap (keys_outcome a) (sym kept) ∙ rw (length-take-le count room s.places) at (ap (in_room room₀) e)
+      ap (keys_outcome answer) (sym kept) ∙ rw (length-take-le count room s.places) at (ap (in_room room₀) e)
 
-  pub no_line_left : length text ≤ at → keys_outcome (Read count) room ≡ keys_of text room₀
-  unfolding read_lines cut
-  no_line_left h = stops (rw (drop_of_length-le text {i = at} h, length-take-le count room s.places) at s.to_come)
+  pub all_read : length pieces ≤ seen → keys_outcome (Ok count) room ≡ in_room room₀ (whole pieces room₀)
+  unfolding read_lines
+  all_read h = answered (rw (drop_of_length-le pieces {i = seen} h, length-take-le count room s.places) at s.to_come)
 
-  -- one line more
-  module _ (h : at < length text) {end : ℕ} (e : end ≡ at + run newline? (drop at text)) where
-    abbrev this : List ℕ
-    this = take (end - at) (drop at text)
-
-    abbrev next : ℕ
-    next = min (end + 1) (length text)
-
-    turn : {said : Line} → said ≡ line_of this
-        → after_line (length room₀) (number + 1) (take count room) said (λ after. read_lines (length room₀) (number + 1 + 1) after (lines_of (drop next text)))
-        ≡ whole text room₀
+  module _ {line : List ℕ} (here : seen < length pieces) (this : line ≡ get_or pieces seen line) where
+    turn : after_line (length room) (seen + 1) (take count room) (line_of line)
+        (λ after. read_lines (length room₀) (seen + 1 + 1) after (drop (seen + 1) pieces)) ≡ whole pieces room₀
     unfolding read_lines
-    turn r = rw (next_line text at end h e, ← r) at s.to_come
+    turn =
+        let first : drop seen pieces ≡ line ∷ drop (seen + 1) pieces = rw (this, add-one) (drop-cons pieces seen line here) in
+        rw s.same_room (rw first at s.to_come)
 
-    pub bad_line : {why : Fault} → line.Bad why ≡ line_of this → keys_outcome (Bad (number + 1) why) room ≡ keys_of text room₀
-    bad_line r = stops (turn r)
+    pub stops : (stored : Result ℕ Fault) {room' : List ℕ} {bad : BadLine}
+        → MatchResult stored (GoesOn (line_of line) room room' count) (Stops (line_of line) room room' count) → at_line (seen + 1) stored ≡ Err bad
+        → keys_outcome (Err bad) room' ≡ in_room room₀ (whole pieces room₀)
+    stops (Ok more) o e = cc
+    stops (Err why) o e = rw (← e, o.kept) (answered (sym (o.then (seen + 1) _) ∙ turn))
 
-    pub after_blank : line.Blank ≡ line_of this → SoFar text room₀ room next (number + 1) count
-    after_blank r =
-        record {
-          few = omega (arith, s.few);
-          within = omega arith;
-          places = s.places;
-          same_room = s.same_room;
-          untouched = s.untouched;
-          to_come = turn r;
-        }
-
-    module _ {key : ℕ} (r : line.Key key ≡ line_of this) where
-      pub no_place : count ≡ length room → keys_outcome (Bad (number + 1) TooManyKeys) room ≡ keys_of text room₀
-      no_place f = stops (rw (length-take-le count room s.places, eq-eqb count (length room₀) (f ∙ s.same_room)) at (turn r))
-
-      module _ (free : count < length room) where
-        not_full : count ≡ length room₀ → ⊥
-        not_full e = omega (arith, s.same_room)
-
-        pub repeated : among? key (take count room) ≡ true → keys_outcome (Bad (number + 1) (Refused RepeatedKeys)) room ≡ keys_of text room₀
-        repeated l = stops (rw (length-take-le count room s.places, ne_eqb count (length room₀) not_full, l) at (turn r))
-
-        pub after-key : among? key (take count room) ≡ false → SoFar text room₀ (set room count key) next (number + 1) (count + 1)
-        after-key l =
-            record {
-              few = omega (arith, s.few);
-              within = omega arith;
-              places = simp length-set (omega arith);
-              same_room = simp length-set s.same_room;
-              untouched =
-                  drop-set-lt (count + 1) room count key (omega arith) ∙ sym (drop-drop 1 count room) ∙ ap (drop 1) s.untouched ∙ drop-drop 1 count room₀;
-              to_come = rw (add-one count, take-suc-set room count key free)
-                  (rw (length-take-le count room s.places, ne_eqb count (length room₀) not_full, l) at (turn r));
-            }
+    pub goes_on : (stored : Result ℕ Fault) {room' : List ℕ} {more : ℕ}
+        → MatchResult stored (GoesOn (line_of line) room room' count) (Stops (line_of line) room room' count) → at_line (seen + 1) stored ≡ Ok more
+        → length room' ≡ length room → SoFar pieces room₀ room' (seen + 1) more
+    goes_on (Err why) o e same = cc
+    goes_on (Ok n) {room'} {more} o e same =
+        let is : n ≡ more = cc in
+        let after : SoFar pieces room₀ room' (seen + 1) n
+        = record {
+          places = omega (arith, o.places);
+          same_room = same ∙ s.same_room;
+          untouched = o.untouched ∙ further room room₀ count n o.grown s.untouched;
+          to_come = sym (o.then (seen + 1) _) ∙ turn;
+        } in
+        rw is at after

@@ -1,9 +1,9 @@
 pub mod Decimal
 pub mod Cut
-pub mod Runs
 pub mod Clock
 pub mod Line
 pub mod Keys
+pub mod Stored
 pub mod Room
 pub mod OneAnswer
 pub mod Examples

@@ -1,78 +1,48 @@
 // A number in decimal.
-ghost use Rattle.std.specs.Prelude.{◌≡◌, ◌-◌};
-ghost use Rattle.due_text.specs.Decimal.{digit?, all_digits, value_from, fitting, number_of};
+ghost use Rattle.std.specs.Prelude.{◌≡◌, ◌+◌, ◌-◌, ◌*◌, ◌^◌, ◌<◌};
+ghost use Rattle.std.specs.Option.{SomeIff};
+ghost use Rattle.due_text.specs.Decimal.{all_digits, value_from, fitting, number_of};
 
-const LARGEST: u64 = 0xffff_ffff_ffff_ffff;
-
-#[derive(Drop)]
-pub enum Number {
-    Value(u64),
+// Why a word is no number that 64 bits hold.
+#[derive(Clone, Copy, Debug, PartialEq, Eq)]
+pub enum NumberError {
     NotDigits,
     TooLarge,
 }
 
 // What a word says.
-pub fn read(word: &[u8]) -> Number
+#[tactic(auto, unfolding(crate::specs::Decimal::number_of))]
+pub fn read(word: &[u8]) -> Result<u64, NumberError>
     ensures { result ≡ number_of word.now }
 {
-    if word.len() == 0 {
-        return Number::NotDigits;
-    }
-    if !all_digits(word) {
-        return Number::NotDigits;
+    if word.is_empty() || !all_digits(word) {
+        return Err(NumberError::NotDigits);
     }
     value(word)
-}
-
-fn is_digit(byte: u8) -> bool
-    ensures { result ≡ digit? byte }
-{
-    if byte < b'0' {
-        return false;
-    }
-    byte <= b'9'
 }
 
 fn all_digits(word: &[u8]) -> bool
     ensures { result ≡ all_digits word.now }
 {
-    let mut i = 0;
-    while i < word.len() {
-        if !is_digit(word[i]) {
-            return false;
-        }
-        i += 1;
-    }
-    true
-}
-
-// What a digit counts; 0 for a byte below `0`.
-fn digit(byte: u8) -> u64
-    ensures { result ≡ byte - 48 }
-{
-    if byte < b'0' {
-        return 0;
-    }
-    (byte - b'0') as u64
+    word.iter().all(|byte| byte.is_ascii_digit())
 }
 
 // The number that digits write.
-fn value(digits: &[u8]) -> Number
+#[tactic(auto, using(crate::proofs::Digits::steps))]
+fn value(digits: &[u8]) -> Result<u64, NumberError>
     ensures { result ≡ fitting (value_from 0 digits.now) }
 {
     let mut value = 0;
-    let mut i = 0;
-    while i < digits.len() {
-        if LARGEST / 10 < value {
-            return Number::TooLarge;
-        }
-        let next = digit(digits[i]);
-        let tens = value * 10;
-        if LARGEST - tens < next {
-            return Number::TooLarge;
-        }
-        value = tens + next;
-        i += 1;
+    for byte in digits {
+        value = with_digit(value, *byte).ok_or(NumberError::TooLarge)?;
     }
-    Number::Value(value)
+    Ok(value)
+}
+
+// A number with one digit more, where 64 bits hold it. A byte below `0` counts 0.
+fn with_digit(value: u64, byte: u8) -> Option<u64>
+    ensures { let next = value * 10 + (byte - 48) in SomeIff result (next < 2 ^ 64) next }
+{
+    let digit = byte.saturating_sub(b'0');
+    value.checked_mul(10)?.checked_add(u64::from(digit))
 }

@@ -6,5 +6,3 @@ mod clock;
 pub mod decimal;
 pub mod keys;
 pub mod line;
-mod scan;
-mod word;

@@ -1,21 +1,18 @@
 // One line of the text.
 ghost use Rattle.std.specs.Prelude.{◌≡◌};
-ghost use Rattle.flush.specs.FlushKey.{paper};
-ghost use Rattle.due_text.specs.Clock.{clock_of};
-ghost use Rattle.due_text.specs.Cut.{words_of};
-ghost use Rattle.due_text.specs.Line.{line_of, said_by, plain_of, due_of, due_at_unit, due_at_clock, keyed_of};
+ghost use Rattle.due_text.specs.Decimal.{number_of};
+ghost use Rattle.due_text.specs.Cut.{blank?, before_comment, words_of};
+ghost use Rattle.due_text.specs.Line.{line_of, said_by, plain_of, due_of, up_to, fault_of};
 
-use crate::clock::Clock;
-use crate::decimal::Number;
-use crate::{clock, decimal, scan, word};
+use crate::decimal::NumberError;
+use crate::{clock, decimal};
 use answers::Refusal;
-use flush::KeyAnswer;
 
 const LAST_UNIT: u64 = 65535;
 
 const LAST_VALVE: u64 = 255;
 
-#[derive(Drop)]
+#[derive(Clone, Copy, Debug, PartialEq, Eq)]
 pub enum Fault {
     NotNumber,
     WordCount,
@@ -27,118 +24,80 @@ pub enum Fault {
     TooManyKeys,
 }
 
-#[derive(Drop)]
-pub enum Line {
-    Blank,
-    Key(u64),
-    Bad(Fault),
-}
-
-// What a line says, up to its comment.
-pub fn read(text: &[u8]) -> Line
+// The key that a line says, if it says one, up to its comment.
+pub fn read(text: &[u8]) -> Result<Option<u64>, Fault>
     ensures { result ≡ line_of text.now }
 {
-    let end = scan::find(text, 0, b'#');
+    let comment = text.iter().position(|byte| *byte == b'#');
+    let end = comment.unwrap_or(text.len());
     said(&text[..end])
 }
 
 // What the words of a line say.
-fn said(text: &[u8]) -> Line
+fn said(text: &[u8]) -> Result<Option<u64>, Fault>
     ensures { result ≡ said_by (words_of text.now) }
 {
-    let first = word::next(text, 0);
-    let start1 = first.start;
-    let end1 = first.end;
-    if start1 == end1 {
-        return Line::Blank;
+    let mut words = text
+        .split(|byte| is_blank(*byte))
+        .filter(|word| !word.is_empty());
+    let Some(first) = words.next() else {
+        return Ok(None);
+    };
+    let Some(second) = words.next() else {
+        return plain(first).map(Some);
+    };
+    let Some(third) = words.next() else {
+        return Err(Fault::WordCount);
+    };
+    match words.next() {
+        None => due(first, second, third).map(Some),
+        Some(_) => Err(Fault::WordCount),
     }
-    let second = word::next(text, end1);
-    let start2 = second.start;
-    let end2 = second.end;
-    if start2 == end2 {
-        return plain(&text[start1..end1]);
-    }
-    let third = word::next(text, end2);
-    let start3 = third.start;
-    let end3 = third.end;
-    if start3 == end3 {
-        return Line::Bad(Fault::WordCount);
-    }
-    let fourth = word::next(text, end3);
-    if fourth.start != fourth.end {
-        return Line::Bad(Fault::WordCount);
-    }
-    due(
-        &text[start1..end1],
-        &text[start2..end2],
-        &text[start3..end3],
-    )
+}
+
+// Not `is_ascii_whitespace`, which takes a form feed too: by the definition `blank?` it is none.
+fn is_blank(byte: u8) -> bool
+    ensures { result ≡ blank? byte }
+{
+    matches!(byte, b' ' | b'\t' | b'\r' | b'\n')
 }
 
 // A plain key.
-pub fn plain(key: &[u8]) -> Line
+#[tactic(auto, unfolding(crate::specs::Line::plain_of))]
+pub fn plain(key: &[u8]) -> Result<u64, Fault>
     ensures { result ≡ plain_of key.now }
 {
-    let number = decimal::read(key);
-    match number {
-        Number::Value(key) => Line::Key(key),
-        Number::NotDigits => Line::Bad(Fault::NotNumber),
-        Number::TooLarge => Line::Bad(Fault::KeyAbove),
-    }
+    decimal::read(key).map_err(|why| fault_of(why, Fault::KeyAbove))
 }
 
 // A flush: its unit first, then its valve, then its seconds.
-pub fn due(unit: &[u8], valve: &[u8], seconds: &[u8]) -> Line
+#[tactic(auto, using(crate::proofs::Bounds::in_turn), unfolding(crate::specs::Line::due_of, crate::specs::Line::due_at_unit))]
+pub fn due(unit: &[u8], valve: &[u8], seconds: &[u8]) -> Result<u64, Fault>
     ensures { result ≡ due_of unit.now valve.now seconds.now }
 {
-    let number = decimal::read(unit);
-    match number {
-        Number::Value(unit) => {
-            if LAST_UNIT < unit {
-                return Line::Bad(Fault::UnitAbove);
-            }
-            due_at_unit(unit as u16, valve, seconds)
-        }
-        Number::NotDigits => Line::Bad(Fault::NotNumber),
-        Number::TooLarge => Line::Bad(Fault::UnitAbove),
-    }
+    let unit = up_to(unit, LAST_UNIT, Fault::UnitAbove)?;
+    let valve = up_to(valve, LAST_VALVE, Fault::ValveAbove)?;
+    let seconds = clock::read(seconds).map_err(|why| fault_of(why, Fault::ClockBeyond))?;
+    flush::flush_key(unit as u16, valve as u8, seconds).map_err(Fault::Refused)
 }
 
-fn due_at_unit(unit: u16, valve: &[u8], seconds: &[u8]) -> Line
-    ensures { result ≡ due_at_unit unit valve.now seconds.now }
+// A number that is not above the last one allowed.
+fn up_to(word: &[u8], last: u64, above: Fault) -> Result<u64, Fault>
+    ensures { result ≡ up_to last above (number_of word.now) Ok }
 {
-    let number = decimal::read(valve);
-    match number {
-        Number::Value(valve) => {
-            if LAST_VALVE < valve {
-                return Line::Bad(Fault::ValveAbove);
-            }
-            due_at_valve(unit, valve as u8, seconds)
-        }
-        Number::NotDigits => Line::Bad(Fault::NotNumber),
-        Number::TooLarge => Line::Bad(Fault::ValveAbove),
+    let number = decimal::read(word).map_err(|why| fault_of(why, above))?;
+    if last < number {
+        return Err(above);
     }
+    Ok(number)
 }
 
-fn due_at_valve(unit: u16, valve: u8, seconds: &[u8]) -> Line
-    ensures { result ≡ due_at_clock unit valve (clock_of seconds.now) }
+// What is wrong with a word that is no number, or one that is too large.
+fn fault_of(why: NumberError, above: Fault) -> Fault
+    ensures { result ≡ fault_of above why }
 {
-    let clock = clock::read(seconds);
-    match clock {
-        Clock::At(seconds) => {
-            let answer = flush::flush_key(unit, valve, seconds);
-            keyed(answer)
-        }
-        Clock::NotDigits => Line::Bad(Fault::NotNumber),
-        Clock::TooLarge => Line::Bad(Fault::ClockBeyond),
-    }
-}
-
-fn keyed(answer: KeyAnswer) -> Line
-    ensures { result ≡ keyed_of (paper answer) }
-{
-    match answer {
-        KeyAnswer::Key(key) => Line::Key(key),
-        KeyAnswer::Refused(why) => Line::Bad(Fault::Refused(why)),
+    match why {
+        NumberError::NotDigits => Fault::NotNumber,
+        NumberError::TooLarge => above,
     }
 }

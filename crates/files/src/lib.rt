@@ -1,44 +1,36 @@
-// A whole file read.
+// A whole file read, and what is said of files that fail.
 #![tactic(auto)]
 
 ghost use Rattle.files.specs.Prefix.{IsPrefixLen};
-ghost use Rattle.std.specs.Prelude.{◌≤◌, length};
+ghost use Rattle.std.specs.Prelude.{◌≡◌, IfOk, IfSome};
+ghost use Rattle.std.specs.Result.{result_ok};
 
 use arrayvec::ArrayString;
-use std::fmt::Write;
+use std::fmt::{Display, Write};
 use std::io::Read;
 use std::rt::Files;
-use std::{fs, io};
+use std::{fmt, fs, io};
 
-// How many bytes came, and whether they are all that there are.
-#[derive(Drop)]
-pub struct Contents {
-    pub count: usize,
-    pub whole: bool,
-}
-
-// A file's bytes at the start of the room, which has one place more than a file may fill. If they are not whole, it is said why.
-pub fn read<R: Files + Eprint>(rt: &R, path: &[u8], room: &mut [u8]) -> Contents
-    ensures { IsPrefixLen result.count room.new }
+// A file's bytes at the start of the room, which has one place more than a file may fill: how many. If they are not whole, it is
+// said why.
+pub fn read<R: Files + Eprint>(rt: &R, path: &[u8], room: &mut [u8]) -> Option<usize>
+    ensures { IfSome result (λ count. IsPrefixLen count room.new) }
 {
     // A pipe might keep it waiting for ever, and a device never end.
-    if names::special(names::led_to(rt, path)) {
+    if names::led_to(rt, path).is_some_and(|there| there.is_special()) {
         not_plain(rt, path);
-        return Contents {
-            count: 0,
-            whole: false,
-        };
+        return None;
     }
-    match open(rt, path) {
-        Ok(mut file) => fill(rt, &mut file, path, room),
-        Err(why) => {
-            failed(rt, path, why);
-            Contents {
-                count: 0,
-                whole: false,
-            }
-        }
+    let mut file = or_say(rt, path, open(rt, path))?;
+    let count = or_say(rt, path, fill(&mut file, room))?;
+    if count.is_none() {
+        say(
+            rt,
+            path,
+            format_args!("not shorter than {} bytes", room.len()),
+        );
     }
+    count
 }
 
 fn open<R: Files>(rt: &R, path: &[u8]) -> io::Result<R::File> {
@@ -47,84 +39,67 @@ fn open<R: Files>(rt: &R, path: &[u8]) -> io::Result<R::File> {
 
 // The library takes no name that is not UTF-8.
 pub fn name(path: &[u8]) -> io::Result<&str> {
-    match str::from_utf8(path) {
-        Ok(text) => Ok(text),
-        Err(_) => Err(io::Error::from(io::ErrorKind::InvalidInput)),
-    }
+    str::from_utf8(path).map_err(|_| io::Error::from(io::ErrorKind::InvalidInput))
 }
 
-fn fill(rt: &impl Eprint, file: &mut impl Read, path: &[u8], room: &mut [u8]) -> Contents
-    ensures { IsPrefixLen result.count room.new }
+// How many bytes came until the file ended, if it ended before the room was full.
+fn fill(file: &mut impl Read, room: &mut [u8]) -> io::Result<Option<usize>>
+    ensures { IfOk result (λ ended. IfSome ended (λ count. IsPrefixLen count room.new)) }
 {
+    // No `for`: how far a read comes is known only after it.
     let mut count = 0;
     while count < room.len() {
-        let more = some(rt, file, path, &mut room[count..]);
-        let n = more.count;
+        let n = file.read(&mut room[count..])?;
         if n == 0 {
-            return Contents {
-                count,
-                whole: more.whole,
-            };
+            return Ok(Some(count));
         }
         count += n;
     }
-    too_long(rt, path, room.len());
-    Contents {
-        count: 0,
-        whole: false,
-    }
-}
-
-// One read into the room: none where the file ends, or where the read failed.
-fn some(rt: &impl Eprint, file: &mut impl Read, path: &[u8], room: &mut [u8]) -> Contents
-    ensures { result.count ≤ length room.new }
-{
-    match file.read(room) {
-        Ok(count) => Contents { count, whole: true },
-        Err(why) => {
-            failed(rt, path, why);
-            Contents {
-                count: 0,
-                whole: false,
-            }
-        }
-    }
-}
-
-fn too_long(rt: &impl Eprint, path: &[u8], size: usize) {
-    say(rt, path);
-    say(rt, b": not shorter than ");
-    say_number(rt, size as u64);
-    say(rt, b" bytes\n");
+    Ok(None)
 }
 
 pub fn not_plain(rt: &impl Eprint, path: &[u8]) {
-    say(rt, path);
-    say(rt, b": not a plain file\n");
+    say(rt, path, "not a plain file");
 }
 
-// What failed, and the system's own words for it, without its number.
-pub fn failed(rt: &impl Eprint, what: &[u8], why: io::Error) {
+// What a step answered; if it failed, it is said of what and why, and nothing is left.
+pub fn or_say<T>(rt: &impl Eprint, what: &[u8], answer: io::Result<T>) -> Option<T>
+    ensures { result ≡ result_ok answer }
+{
+    answer.map_err(|why| failed(rt, what, why)).ok()
+}
+
+// The system's own words for what failed, without its number.
+fn failed(rt: &impl Eprint, what: &[u8], why: io::Error) {
     let mut words = ArrayString::<256>::new();
     let _ = write!(words, "{why}");
-    say(rt, what);
-    say(rt, b": ");
-    say(rt, without_number(words.as_str()).as_bytes());
-    say(rt, b"\n");
+    say(rt, what, without_number(words.as_str()));
 }
 
 fn without_number(words: &str) -> &str {
-    match words.split_once(" (os error ") {
-        Some((plain, _)) => plain,
-        None => words,
+    words
+        .split_once(" (os error ")
+        .map_or(words, |(plain, _)| plain)
+}
+
+// A line on standard error, of what and in which words. What cannot be written there stays unsaid, and changes no answer.
+pub fn say<W: Display + Drop>(rt: &impl Eprint, what: &[u8], words: W) {
+    let _ = eprintln!(rt; "{}: {words}", Lossy(what));
+}
+
+// Text, as it is written to standard error: bytes that are not UTF-8 come as the sign for an unknown character.
+// The library's `from_utf8_lossy` makes a `String`, and the tool takes no heap for names.
+#[derive(Drop)]
+struct Lossy<'a>(&'a [u8]);
+
+impl Display for Lossy<'_> {
+    fn fmt<W: fmt::Write>(&self, f: &mut fmt::Formatter<W>) -> fmt::Result {
+        for chunk in self.0.utf8_chunks() {
+            f.write_str(chunk.valid())?;
+            if !chunk.invalid().is_empty() {
+                f.write_str("\u{fffd}")?;
+            }
+        }
+        Ok(())
     }
-}
-
-// To standard error. What cannot be written there stays unsaid, and changes no answer.
-pub fn say(rt: &impl Eprint, words: &[u8]) {
-    let _ = printing::error(rt, words);
-}
-
-pub fn say_number(rt: &impl Eprint, x: u64) {
-    let _ = printing::error_number(rt, x);
 }

@@ -1,10 +1,11 @@
 -- One key, stored where it was taken: its fingerprint, the three slots' and its own slot's once more; any fingerprint, so any width.
 -- Assumes nothing.
-use Rattle.std.specs.Prelude.{◌≡◌, List, ℕ, zero, suc, ◌^◌, ◌<◌, get_or, set}
+use Rattle.std.specs.Prelude.{◌≡◌, List, length, ℕ, zero, suc, ◌^◌, ◌<◌, get_or, set}
 use Rattle.std.specs.Int.Bits.{bit_xor, xor_comm}
 use Rattle.std.proofs.Common.{sym, ap, ◌∙◌, arith}
 use Rattle.words.specs.Xor.{xor_assoc, xor_cancel_right}
 use Rattle.arith.specs.Slots.{slots_of}
+use Rattle.arith.specs.XorAt.{xor_at}
 use Rattle.stuck.specs.Stuck.{Slots, slot_at, next}
 use Rattle.stuck.specs.Fill.{store}
 use Rattle.peel.specs.Segments.{slots_in}
@@ -49,17 +50,13 @@ module _ (t : Slots) (v : ℕ) (values : List ℕ) where
 
 -- ---- what the code needs of a key whose slots it has read
 
--- what stands at the slot at position q
-abbrev pub read : (values three : List ℕ) (q : ℕ) → ℕ
-read values three q = get_or values (get_or three q 0) 0
-
--- the values with the key stored
+-- the values with the key stored: at its own slot the left over, and what stood there once more
 abbrev pub with_key : (values three : List ℕ) (position v : ℕ) → List ℕ
 with_key values three position v =
-    set values (get_or three position 0)
-    (bit_xor (four v (read values three 0) (read values three 1) (read values three 2)) (read values three position))
+    set values (get_or three position 0) (bit_xor (xor_at v three values) (get_or values (get_or three position 0) 0))
 
 pub record OneKey (segment mask span slots hash position : ℕ) (three : List ℕ) : Type 0 where
+  pub long : length three ≡ 3
   pub inside0 : get_or three 0 0 < slots
   pub inside1 : get_or three 1 0 < slots
   pub inside2 : get_or three 2 0 < slots
@@ -89,6 +86,7 @@ module _ {segment mask span slots hash position : ℕ} {three : List ℕ} (layou
   pub one_key : OneKey segment mask span slots hash position three
   one_key =
       record {
+        long = ap length are;
         inside0 = inside 0 (omega arith);
         inside1 = inside 1 (omega arith);
         inside2 = inside 2 (omega arith);

@@ -2,11 +2,9 @@
 -- to 2^39 - 1 are good, and the key holds the hour modulo 2^40. Assumes nothing.
 use Rattle.std.specs.Prelude.{ℕ, ◌+◌, ◌-◌, ◌*◌, ◌^◌, ℤ, pos, neg_ℤ}
 use Rattle.std.specs.Int.Signed.{lt_z}
-use Rattle.answers.specs.Answers.{number_of, Answer, refuses, gives}
+use Rattle.answers.specs.Answers.{Answer, gives}
 use Rattle.answers.specs.Checks.{refuse_if, ◌then◌}
 use Rattle.flush.specs.Floor.{floor_div, modulo}
-use Rattle.flush.specs.declared.KeyAnswer.{KeyAnswer}
-use Rattle.flush.specs.declared.KeyAnswer.TheVariants.{Key, Refused}
 
 abbrev pub seconds_per_hour : ℕ
 seconds_per_hour = 3600
@@ -35,8 +33,3 @@ key_at_hour unit valve hour =
 
 unfoldable pub flush_key_of : (unit valve : ℕ) (seconds : ℤ) → Answer ℕ
 flush_key_of unit valve seconds = key_at_hour unit valve (hour_of seconds)
-
--- the paper's number and value for each case of the enum
-abbrev pub paper : KeyAnswer → Answer ℕ
-paper (Key key) = gives key
-paper (Refused why) = refuses (number_of why)

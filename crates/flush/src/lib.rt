@@ -3,8 +3,8 @@
 
 ghost use Rattle.std.specs.Prelude.{◌≡◌, ◌<◌};
 ghost use Rattle.flush.specs.Floor.{modulo};
-ghost use Rattle.flush.specs.FlushKey.{hour_of, hours_held, key_of, flush_key_of, paper};
-ghost use Rattle.flush.specs.Hours.{Good};
+ghost use Rattle.answers.specs.Paper.{paper};
+ghost use Rattle.flush.specs.FlushKey.{hour_of, hours_held, key_of, flush_key_of};
 
 use answers::Refusal;
 
@@ -16,27 +16,20 @@ const LAST_HOUR: i64 = 0x7f_ffff_ffff;
 
 const HOURS_HELD: i64 = 0x100_0000_0000;
 
-#[derive(Drop)]
-pub enum KeyAnswer {
-    Key(u64),
-    Refused(Refusal),
-}
-
-pub fn flush_key(unit: u16, valve: u8, seconds: i64) -> KeyAnswer
+// The key, or the refusal of an hour that 40 bits do not hold.
+#[tactic(auto, unfolding(crate::specs::FlushKey::flush_key_of, crate::specs::FlushKey::key_at_hour))]
+pub fn flush_key(unit: u16, valve: u8, seconds: i64) -> Result<u64, Refusal>
     ensures { paper result ≡ flush_key_of unit valve seconds }
 {
     let hour = hour_of(seconds);
-    if hour < FIRST_HOUR {
-        return KeyAnswer::Refused(Refusal::Clock);
+    if !(FIRST_HOUR..=LAST_HOUR).contains(&hour) {
+        return Err(Refusal::Clock);
     }
-    if LAST_HOUR < hour {
-        return KeyAnswer::Refused(Refusal::Clock);
-    }
-    let in_key = held(hour);
-    KeyAnswer::Key(key(unit, valve, in_key))
+    Ok(key(unit, valve, held(hour)))
 }
 
 // The floor of seconds / 3,600. Division drops the remainder, so below zero it rounds up where there is one.
+// Not `div_euclid`: signed `/` and `%` are among the forms that docs/SPECIFICATION.md asks for.
 fn hour_of(seconds: i64) -> i64
     ensures { result ≡ hour_of seconds }
 {
@@ -50,13 +43,9 @@ fn hour_of(seconds: i64) -> i64
 
 // The hour modulo 2^40, as the key holds it.
 fn held(hour: i64) -> u64
-    requires { Good hour }
     ensures { result ≡ modulo hour hours_held }
 {
-    if hour < 0 {
-        return (hour + HOURS_HELD) as u64;
-    }
-    hour as u64
+    hour.rem_euclid(HOURS_HELD) as u64
 }
 
 // The three numbers side by side.

@@ -9,7 +9,7 @@ mod pack;
 mod sample;
 
 use due_text::line;
-use due_text::line::Line;
+use due_text::line::Fault;
 use std::io::ErrorKind;
 use std::random::RandomSource;
 use std::rt::Files;
@@ -37,72 +37,59 @@ fn main(rt: HostRuntime) -> io::Result<()> {
 
 // The first word is the program's own name.
 fn run<R: Files + Print + Eprint + RandomSource>(rt: &R, words: &[String]) -> io::Result<()> {
-    if words.len() < 2 {
-        return sample::run(rt);
+    match words {
+        [] | [_] => sample::run(rt),
+        [_, command, text, list] if command.as_str() == "pack" => {
+            pack_named(rt, text.as_str(), list.as_str())
+        }
+        [_, command, list, key] if command.as_str() == "ask" => {
+            let key = line::plain(short(key.as_bytes()));
+            ask_named(rt, list.as_str(), key.map(Some))
+        }
+        [_, command, list, unit, valve, seconds] if command.as_str() == "ask" => {
+            let unit = short(unit.as_bytes());
+            let valve = short(valve.as_bytes());
+            let key = line::due(unit, valve, short(seconds.as_bytes()));
+            ask_named(rt, list.as_str(), key.map(Some))
+        }
+        _ => {
+            messages::usage(rt);
+            Ok(())
+        }
     }
-    let command = words[1].as_str();
-    if command == "pack" && words.len() == 4 {
-        return pack_named(rt, words[2].as_bytes(), words[3].as_bytes());
-    }
-    if command == "ask" && words.len() == 4 {
-        return ask_key(rt, words[2].as_bytes(), words[3].as_bytes());
-    }
-    if command == "ask" && words.len() == 6 {
-        let (unit, valve, seconds) = (
-            words[3].as_bytes(),
-            words[4].as_bytes(),
-            words[5].as_bytes(),
-        );
-        return ask_flush(rt, words[2].as_bytes(), unit, valve, seconds);
-    }
-    messages::usage(rt);
-    Ok(())
 }
 
 // flushlist pack TEXT LIST
 fn pack_named<R: Files + Print + Eprint + RandomSource>(
     rt: &R,
-    text: &[u8],
-    list: &[u8],
+    text: &str,
+    list: &str,
 ) -> io::Result<()> {
-    if text.len() > NAME {
-        messages::long_name(rt, b"the text's name");
-        return Ok(());
+    if fits(rt, "the text's name", text) && fits(rt, "the list's name", list) {
+        pack::run(rt, text, list)?;
     }
-    if list.len() > NAME {
-        messages::long_name(rt, b"the list's name");
-        return Ok(());
-    }
-    pack::run(rt, text, list)?;
     Ok(())
 }
 
-// flushlist ask LIST KEY
-fn ask_key<R: Files + Print + Eprint>(rt: &R, list: &[u8], key: &[u8]) -> io::Result<()> {
-    ask_named(rt, list, line::plain(short(key)))
-}
-
-// flushlist ask LIST UNIT VALVE SECONDS
-fn ask_flush<R: Files + Print + Eprint>(
+// flushlist ask LIST KEY, and flushlist ask LIST UNIT VALVE SECONDS
+fn ask_named<R: Files + Print + Eprint>(
     rt: &R,
-    list: &[u8],
-    unit: &[u8],
-    valve: &[u8],
-    seconds: &[u8],
+    list: &str,
+    question: Result<Option<u64>, Fault>,
 ) -> io::Result<()> {
-    ask_named(
-        rt,
-        list,
-        line::due(short(unit), short(valve), short(seconds)),
-    )
+    if fits(rt, "the list's name", list) {
+        ask::run(rt, list, question)?;
+    }
+    Ok(())
 }
 
-fn ask_named<R: Files + Print + Eprint>(rt: &R, list: &[u8], question: Line) -> io::Result<()> {
-    if list.len() > NAME {
-        messages::long_name(rt, b"the list's name");
-        return Ok(());
+// Whether a name may be one; if not, it is said whose it is.
+fn fits(rt: &impl Eprint, whose: &str, name: &str) -> bool {
+    if name.len() > NAME {
+        messages::long_name(rt, whose);
+        return false;
     }
-    ask::run(rt, list, question)
+    true
 }
 
 fn short(word: &[u8]) -> &[u8] {

@@ -3,15 +3,14 @@ ghost use Rattle.std.specs.Prelude.{◌≡◌, ◌*◌, length};
 ghost use Rattle.capacity.specs.Capacity.{max_keys};
 
 use crate::{held, messages};
-use bfuse8::BuildAnswer;
 use capacity::MAX_KEYS;
-use descriptor::{DESCRIPTOR_SIZE, Descriptor, WriteAnswer};
+use descriptor::{DESCRIPTOR_SIZE, Descriptor};
 use due_text::keys;
-use due_text::keys::KeysAnswer;
 use layout::limits::{MAX_SLOTS, MAX_STARTS};
-use std::io;
+use scratch::Scratch;
 use std::random::RandomSource;
 use std::rt::Files;
+use std::{fmt, io};
 
 const MOST_KEYS: usize = MAX_KEYS as usize;
 
@@ -30,123 +29,101 @@ fn text_room() -> [u8; TEXT_ROOM]
 // Whether the list was written, and read back as it should be; if not, it is said why.
 pub fn run<R: Files + Print + Eprint + RandomSource>(
     rt: &R,
-    text: &[u8],
-    list: &[u8],
+    text: &str,
+    list: &str,
 ) -> io::Result<bool> {
-    if !saving::may_replace(rt, text, list) {
+    let Some(packed) = pack(rt, text, list) else {
         return Ok(false);
+    };
+    println!(rt; "{list}: {packed}")?;
+    Ok(true)
+}
+
+// What was packed. As `keys 13, fingerprints 48, attempt 1`.
+#[derive(Clone, Copy)]
+struct Packed {
+    keys: usize,
+    fingerprints: usize,
+    attempt: u32,
+}
+
+impl fmt::Display for Packed {
+    fn fmt<W: fmt::Write>(&self, f: &mut fmt::Formatter<W>) -> fmt::Result {
+        write!(
+            f,
+            "keys {}, fingerprints {}, attempt {}",
+            self.keys, self.fingerprints, self.attempt
+        )
     }
+}
+
+fn pack<R: Files + Eprint + RandomSource>(rt: &R, text: &str, list: &str) -> Option<Packed> {
+    saving::may_replace(rt, text.as_bytes(), list.as_bytes())?;
     let mut room = text_room();
-    let contents = files::read(rt, text, &mut room);
-    if !contents.whole {
-        return Ok(false);
-    }
-    let n = contents.count;
+    let n = files::read(rt, text.as_bytes(), &mut room)?;
     pack_text(rt, &room[..n], list)
 }
 
-fn pack_text<R: Files + Print + Eprint + RandomSource>(
-    rt: &R,
-    text: &[u8],
-    list: &[u8],
-) -> io::Result<bool> {
+fn pack_text<R: Files + Eprint + RandomSource>(rt: &R, text: &[u8], list: &str) -> Option<Packed> {
     let mut room = [0u64; MOST_KEYS];
-    let answer = keys::read(text, &mut room);
-    match answer {
-        KeysAnswer::Read(count) => pack_keys(rt, &room[..count], list),
-        KeysAnswer::Bad(number, why) => {
-            messages::bad_line(rt, number, why);
-            Ok(false)
+    match keys::read(text, &mut room) {
+        Ok(count) => pack_keys(rt, &room[..count], list),
+        Err(bad) => {
+            messages::bad_line(rt, bad);
+            None
         }
     }
 }
 
-fn pack_keys<R: Files + Print + Eprint + RandomSource>(
-    rt: &R,
-    keys: &[u64],
-    list: &[u8],
-) -> io::Result<bool> {
-    if keys.len() == 0 {
+fn pack_keys<R: Files + Eprint + RandomSource>(rt: &R, keys: &[u64], list: &str) -> Option<Packed> {
+    if keys.is_empty() {
         messages::no_flush(rt, list);
     }
     let mut fingerprints = [0u8; MAX_SLOTS];
-    let mut lone = [0u32; MAX_SLOTS];
-    let mut counts = [0u16; MAX_SLOTS];
-    let mut sums = [0u64; MAX_SLOTS];
-    let mut positions = [0u8; MOST_KEYS];
-    let mut order = [0u64; MOST_KEYS + 1];
-    let mut starts = [0u32; MAX_STARTS];
-    let answer = bfuse8::build(
-        keys,
-        ATTEMPTS,
-        &mut fingerprints,
-        &mut lone,
-        &mut counts,
-        &mut sums,
-        &mut positions,
-        &mut order,
-        &mut starts,
-    );
-    match answer {
-        BuildAnswer::Built(d, slots, attempt) => {
-            let n = fingerprints.len().min(slots as usize);
-            if !save(rt, d, &fingerprints[..n], list) {
-                return Ok(false);
-            }
-            if !holds(rt, list, keys) {
-                return Ok(false);
-            }
-            tell(rt, list, keys.len(), n, attempt)?;
-            Ok(true)
-        }
-        BuildAnswer::Refused(why) => {
-            messages::refused(rt, why);
-            Ok(false)
-        }
-    }
+    let mut scratch = Scratch {
+        lone: &mut [0; MAX_SLOTS],
+        counts: &mut [0; MAX_SLOTS],
+        sums: &mut [0; MAX_SLOTS],
+        positions: &mut [0; MOST_KEYS],
+        order: &mut [0; MOST_KEYS + 1],
+        starts: &mut [0; MAX_STARTS],
+    };
+    let built = bfuse8::build(keys, ATTEMPTS, &mut fingerprints, &mut scratch)
+        .map_err(|why| messages::refused(rt, why))
+        .ok()?;
+    let slots = fingerprints.len().min(built.slots as usize);
+    save(rt, built.descriptor, &fingerprints[..slots], list)?;
+    read_back(rt, list, keys)?;
+    Some(Packed {
+        keys: keys.len(),
+        fingerprints: slots,
+        attempt: built.attempt,
+    })
 }
 
 fn save<R: Files + Eprint + RandomSource>(
     rt: &R,
     d: Descriptor,
     fingerprints: &[u8],
-    list: &[u8],
-) -> bool {
+    list: &str,
+) -> Option<()> {
     let mut bytes = [0u8; DESCRIPTOR_SIZE];
-    let answer = descriptor::write(d, &mut bytes);
-    match answer {
-        WriteAnswer::Done => saving::write(rt, list, &bytes, fingerprints),
-        WriteAnswer::Refused(why) => {
-            messages::refused(rt, why);
-            false
-        }
-    }
+    descriptor::write(d, &mut bytes)
+        .map_err(|why| messages::refused(rt, why))
+        .ok()?;
+    saving::write(rt, list.as_bytes(), &bytes, fingerprints)
 }
 
-// Whether the file that now has the name answers yes to every key. It may be another program's; then it is said.
-fn holds<R: Files + Eprint>(rt: &R, list: &[u8], keys: &[u64]) -> bool {
+// That the file that now has the name answers yes to every key. It may be another program's; then it is said.
+fn read_back<R: Files + Eprint>(rt: &R, list: &str, keys: &[u64]) -> Option<()> {
     let mut room = held::list_room();
-    let contents = files::read(rt, list, &mut room);
-    if !contents.whole {
+    let Some(n) = files::read(rt, list.as_bytes(), &mut room) else {
         messages::not_read_back(rt, list);
-        return false;
-    }
-    let n = contents.count;
+        return None;
+    };
     if !held::all(&room[..n], keys) {
         messages::not_held(rt, list);
-        return false;
+        return None;
     }
-    true
-}
-
-// As `due.list: keys 13, fingerprints 48, attempt 1`.
-fn tell(rt: &impl Print, list: &[u8], keys: usize, slots: usize, attempt: u32) -> io::Result<()> {
-    printing::text(rt, list)?;
-    printing::text(rt, b": keys ")?;
-    printing::number(rt, keys as u64)?;
-    printing::text(rt, b", fingerprints ")?;
-    printing::number(rt, slots as u64)?;
-    printing::text(rt, b", attempt ")?;
-    printing::number(rt, attempt as u64)?;
-    printing::line_end(rt)
+    Some(())
 }

@@ -5,27 +5,28 @@ use std::io;
 use std::random::RandomSource;
 use std::rt::Files;
 
+// Listed: by the second on the line, by another of its hour, by its key, and by the last second of an hour below zero.
+// Not listed: the next hour, another valve, the hour after the one below zero, and hour 0.
+const QUESTIONS: [&str; 8] = [
+    "1 1 1773032400",
+    "3 2 1773291600",
+    "283673999966209",
+    "1 1 -32401",
+    "1 1 1773036000",
+    "1 3 1773032400",
+    "1 1 -32400",
+    "1 1 0",
+];
+
 pub fn run<R: Files + Print + Eprint + RandomSource>(rt: &R) -> io::Result<()> {
-    printing::text(rt, b"$ flushlist pack due.txt due.list\n")?;
-    if !pack::run(rt, b"due.txt", b"due.list")? {
+    println!(rt; "$ flushlist pack due.txt due.list")?;
+    if !pack::run(rt, "due.txt", "due.list")? {
         messages::usage(rt);
         return Ok(());
     }
-    // Listed: by the second on the line, by another of its hour, by its key, and by the last second of an hour below zero.
-    asked(rt, b"1 1 1773032400")?;
-    asked(rt, b"3 2 1773291600")?;
-    asked(rt, b"283673999966209")?;
-    asked(rt, b"1 1 -32401")?;
-    // Not listed: the next hour, another valve, the hour after the one below zero, and hour 0.
-    asked(rt, b"1 1 1773036000")?;
-    asked(rt, b"1 3 1773032400")?;
-    asked(rt, b"1 1 -32400")?;
-    asked(rt, b"1 1 0")
-}
-
-fn asked<R: Files + Print + Eprint>(rt: &R, question: &[u8]) -> io::Result<()> {
-    printing::text(rt, b"$ flushlist ask due.list ")?;
-    printing::text(rt, question)?;
-    printing::line_end(rt)?;
-    ask::run(rt, b"due.list", line::read(question))
+    for question in QUESTIONS {
+        println!(rt; "$ flushlist ask due.list {question}")?;
+        ask::run(rt, "due.list", line::read(question.as_bytes()))?;
+    }
+    Ok(())
 }

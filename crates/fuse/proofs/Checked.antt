@@ -3,8 +3,9 @@ use Rattle.std.specs.Prelude.{◌≡◌, refl, Bool, true, false, ◌||◌, ℕ,
 use Rattle.std.proofs.Common.{arith, lit≤}
 use borrow.Author.Tests.{eqb-false, ltb-false}
 use Rattle.std.proofs.Math.Dec.{ltb}
+use Rattle.std.proofs.lemmas.Bool.{or_parts}
 use Rattle.answers.specs.Answers.{Answer, refuses, gives}
-use Rattle.answers.specs.Checks.{Done, done, refuse_if, ◌then◌}
+use Rattle.answers.specs.Checks.{Done, done}
 use Rattle.answers.specs.Never.{never}
 use Rattle.capacity.specs.Capacity.{max_keys}
 use Rattle.layout.specs.Layout.{slot_count_of, bucket_starts_of}
@@ -22,19 +23,6 @@ pub record Passed (n limit fingerprints lone counts sums positions order starts 
   pub in_positions : n ≤ positions
   pub in_order : n + 1 ≤ order
   pub in_starts : bucket_starts_of n ≤ starts
-
-neither : (a b : Bool) → a || b ≡ false → (a ≡ false) × (b ≡ false)
-neither true b e = absurd (let z : ◌≡◌ {A = ℕ} 0 1 = cc in omega arith)
-neither false b e = (refl, e)
-
-refused_up_to : (bound : ℕ) (fault : Bool) (number : ℕ) (next : Answer Done) → number ≤ bound → ((k : ℕ) → next ≡ refuses k → k ≤ bound)
-    → (k : ℕ) → refuse_if fault number then next ≡ refuses k → k ≤ bound
-refused_up_to bound true number next h rest k e = let z : number ≡ k = cc in omega arith
-refused_up_to bound false number next h rest k e = rest k e
-
-last_number : (fault : Bool) (number k : ℕ) → refuse_if fault number ≡ refuses k → k ≤ number
-last_number true number k e = let z : number ≡ k = cc in omega arith
-last_number false number k e = absurd (let z : ◌≡◌ {A = ℕ} 0 1 = cc in omega arith)
 
 module _ (n limit fingerprints lone counts sums positions order starts : ℕ) where
   abbrev checks : Answer Done
@@ -70,12 +58,12 @@ module _ (n limit fingerprints lone counts sums positions order starts : ℕ) wh
       all_tests (λ answer. answer ≡ gives done → Passed n limit fingerprints lone counts sums positions order starts)
       (λ number small e. never (cc))
       (λ one two three four e.
-      let in_range = neither (eqb limit 0) (ltb max_attempts limit) two in
-      let upto-order = neither _ (ltb starts (bucket_starts_of n)) four in
-      let upto-positions = neither _ (ltb order (n + 1)) upto-order.0 in
-      let upto-sums = neither _ (ltb positions n) upto-positions.0 in
-      let upto-counts = neither _ (ltb sums (slot_count_of n)) upto-sums.0 in
-      let first_two = neither (ltb lone (slot_count_of n)) (ltb counts (slot_count_of n)) upto-counts.0 in
+      let in_range = or_parts (eqb limit 0) (ltb max_attempts limit) two in
+      let upto-order = or_parts _ (ltb starts (bucket_starts_of n)) four in
+      let upto-positions = or_parts _ (ltb order (n + 1)) upto-order.0 in
+      let upto-sums = or_parts _ (ltb positions n) upto-positions.0 in
+      let upto-counts = or_parts _ (ltb sums (slot_count_of n)) upto-sums.0 in
+      let first_two = or_parts (ltb lone (slot_count_of n)) (ltb counts (slot_count_of n)) upto-counts.0 in
       record {
         few_keys = ltb-false max_keys n one;
         some = omega (arith, eqb-false limit 0 in_range.0);

@@ -3,6 +3,8 @@
 use Rattle.std.specs.Prelude.{Bool, ◌||◌, List, ◌++◌, ℕ, ◌+◌, length, drop, replicate, eqb, ltb}
 use Rattle.answers.specs.Answers.{Answer}
 use Rattle.answers.specs.Checks.{Done, refuse_if, ◌then◌}
+use Rattle.scratch.specs.declared.Scratch.{Scratch}
+use Rattle.scratch.specs.Lent.{short_of}
 use Rattle.capacity.specs.Capacity.{max_keys}
 use Rattle.layout.specs.Layout.{slot_count_of, bucket_starts_of}
 use Rattle.fuse.specs.Attempts.{max_attempts}
@@ -20,10 +22,13 @@ pub record Memory : Type 0 where
 abbrev pub memory : (fingerprints lone counts sums positions order starts : List ℕ) → Memory
 memory f l c s p o b = record { fingerprints = f; lone = l; counts = c; sums = s; positions = p; order = o; starts = b }
 
+-- the fingerprints and the scratch as they are lent
+abbrev pub lent : (fingerprints : List ℕ) → Scratch → Memory
+lent fingerprints s = memory fingerprints s.lone.now s.counts.now s.sums.now s.positions.now s.order.now s.starts.now
+
 -- "lone list A, touch counts A, hash sums A, positions n, order n + 1, bucket starts P": one of them is shorter
 abbrev pub short? : (n lone counts sums positions order starts : ℕ) → Bool
-short? n lone counts sums positions order starts =
-    ltb lone (slot_count_of n) || ltb counts (slot_count_of n) || ltb sums (slot_count_of n) || ltb positions n || ltb order (n + 1) || ltb starts (bucket_starts_of n)
+short? n = short_of n (slot_count_of n) (bucket_starts_of n)
 
 -- checks 1 to 4, of the number of keys, the attempt limit or number, and the lengths lent
 unfoldable pub checks_of : (n limit fingerprints lone counts sums positions order starts : ℕ) → Answer Done

@@ -1,26 +1,28 @@
 // The attempts on a list of keys, by their numbers from 1.
-ghost use Rattle.std.specs.Prelude.{◌≡◌, ◌≤◌};
+ghost use Rattle.std.specs.Prelude.{◌≡◌, ◌+◌, ◌*◌, ◌^◌, ◌<◌, ◌≤◌};
+ghost use Rattle.scratch.specs.Lent.{SameBuffers};
 ghost use Rattle.capacity.specs.Capacity.{max_keys};
 ghost use Rattle.layout.specs.Layout.{slot_count_of};
 ghost use Rattle.peel.specs.Buffers.{picks_in};
 ghost use Rattle.fuse.specs.Attempts.{descriptor_at, picks_at};
 ghost use Rattle.fuse.specs.Seek.{CanAttempt};
 
+use arith::slots::Segments;
 use arith::splitmix64::seed;
 use descriptor::Descriptor;
 use layout::{layout_at, plain};
-use peel::clear::{clear_u16, clear_u64};
+use scratch::Scratch;
 
 // A: how many slots n keys take.
 pub fn slots_for(n: u32) -> u32
     requires { n ≤ max_keys }
     ensures { result ≡ slot_count_of n }
 {
-    let layout = plain(n);
-    layout.array_length
+    plain(n).array_length
 }
 
 // The descriptor of an attempt on n keys: its seed, its layout, and the mask L - 1.
+#[tactic(auto, unfolding(crate::specs::Attempts::descriptor_at))]
 pub fn descriptor_at(n: u32, attempt: u32) -> Descriptor
     requires { n ≤ max_keys }
     ensures { result ≡ descriptor_at n attempt }
@@ -34,27 +36,28 @@ pub fn descriptor_at(n: u32, attempt: u32) -> Descriptor
     }
 }
 
+// The segments that a descriptor cuts its slots into, where their numbers leave room for the slots' sums.
+pub fn segments_of(d: Descriptor) -> Segments
+    requires { d.segment_count_length + 2 * d.segment_length < 2 ^ 32 }
+    ensures length { result.length ≡ d.segment_length }
+    ensures mask { result.mask ≡ d.segment_length_mask }
+    ensures span { result.span ≡ d.segment_count_length }
+{
+    Segments {
+        length: d.segment_length,
+        mask: d.segment_length_mask,
+        span: d.segment_count_length,
+    }
+}
+
 // One attempt by its number, whatever the scratch holds. Returns how many keys are taken; `order` and `positions` begin with them.
-pub fn try_attempt(
-    keys: &[u64],
-    number: u32,
-    lone: &mut [u32],
-    counts: &mut [u16],
-    sums: &mut [u64],
-    positions: &mut [u8],
-    order: &mut [u64],
-) -> usize
-    requires { CanAttempt keys.now lone.old counts.old sums.old positions.old order.old }
-    ensures { picks_in result order.new positions.new ≡ picks_at keys.now number }
+pub fn try_attempt(keys: &[u64], number: u32, scratch: &mut Scratch) -> usize
+    requires { CanAttempt keys.now scratch.old.lone.now scratch.old.counts.now scratch.old.sums.now scratch.old.positions.now scratch.old.order.now }
+    ensures same { SameBuffers scratch.old scratch.new }
+    ensures starts { scratch.new.starts.now ≡ scratch.old.starts.now }
+    ensures picks { picks_in result scratch.new.order.now scratch.new.positions.now ≡ picks_at keys.now number }
 {
     let d = descriptor_at(keys.len() as u32, number);
-    let seed = d.seed;
-    let segment = d.segment_length;
-    let mask = d.segment_length_mask;
-    let span = d.segment_count_length;
-    clear_u16(counts);
-    clear_u64(sums);
-    peel::run(
-        keys, seed, segment, mask, span, lone, counts, sums, order, positions,
-    )
+    scratch.clear_sums();
+    peel::run(keys, d.seed, segments_of(d), scratch)
 }

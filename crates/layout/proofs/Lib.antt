@@ -2,5 +2,6 @@ pub mod Fits
 pub mod BucketStarts
 pub mod Growth
 pub mod Lengths
-pub mod Doubling
+pub mod Segments
+pub mod Power
 pub mod Room

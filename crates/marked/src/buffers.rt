@@ -8,68 +8,77 @@ pub const MARK: u8 = 170;
 // The length of each array: the most slots, and some to spare.
 pub const LENGTH: usize = MAX_SLOTS + 8;
 
-// The buffers by number, in the order in which they are lent: fingerprints, lone list, counts, sums, positions, order, bucket starts.
-pub const FINGERPRINTS: u32 = 0;
-
-pub const LONE: u32 = 1;
-
-pub const COUNTS: u32 = 2;
-
-pub const SUMS: u32 = 3;
-
-pub const POSITIONS: u32 = 4;
-
-pub const ORDER: u32 = 5;
-
-pub const STARTS: u32 = 6;
-
-const NO_BUFFER: u32 = 7;
+// In the order in which they are lent.
+#[derive(Clone, Copy, PartialEq, Eq)]
+pub enum Buffer {
+    Fingerprints,
+    Lone,
+    Counts,
+    Sums,
+    Positions,
+    Order,
+    Starts,
+}
 
 // What a list of keys needs: A, its number of keys, and P. Each buffer is lent with `spare` elements more, but the buffer `short` with
 // one fewer than needed.
-#[derive(Clone, Copy, Drop)]
+#[derive(Clone, Copy)]
 pub struct Lent {
-    pub slots: usize,
-    pub keys: usize,
-    pub starts: usize,
-    pub spare: usize,
-    pub short: u32,
+    slots: usize,
+    keys: usize,
+    starts: usize,
+    spare: usize,
+    short: Option<Buffer>,
 }
 
-// Every buffer longer than needed.
-pub fn longer(slots: usize, keys: usize, starts: usize) -> Lent {
-    Lent {
-        slots,
-        keys,
-        starts,
-        spare: 3,
-        short: NO_BUFFER,
+impl Lent {
+    // Every buffer longer than needed.
+    pub fn longer(slots: usize, keys: usize, starts: usize) -> Lent {
+        Lent {
+            slots,
+            keys,
+            starts,
+            spare: 3,
+            short: None,
+        }
     }
-}
 
-// How many elements of a buffer are needed.
-fn needed_of(buffer: u32, lent: Lent) -> usize {
-    match buffer {
-        POSITIONS => lent.keys,
-        ORDER => std::num::wrapping_add_usize(lent.keys, 1),
-        STARTS => lent.starts,
-        _ => lent.slots,
+    // Every buffer as long as needed.
+    pub fn exact(slots: usize, keys: usize, starts: usize) -> Lent {
+        Lent {
+            spare: 0,
+            ..Lent::longer(slots, keys, starts)
+        }
     }
-}
 
-pub fn least(a: usize, b: usize) -> usize
-    ensures { result ≤ b }
-{
-    if a < b { a } else { b }
-}
-
-// How many elements of a buffer are lent.
-pub fn end_of(buffer: u32, lent: Lent) -> usize
-    ensures { result ≤ max_slots + 8 }
-{
-    let needed = needed_of(buffer, lent);
-    if buffer == lent.short {
-        return least(std::num::wrapping_sub_usize(needed, 1), LENGTH);
+    // The same, but this buffer one short.
+    pub fn one_short(self, buffer: Buffer) -> Lent {
+        Lent {
+            short: Some(buffer),
+            ..self
+        }
     }
-    least(std::num::wrapping_add_usize(needed, lent.spare), LENGTH)
+
+    // How many elements of a buffer are needed.
+    pub fn needed_of(self, buffer: Buffer) -> usize {
+        match buffer {
+            Buffer::Positions => self.keys,
+            Buffer::Order => self.keys.saturating_add(1),
+            Buffer::Starts => self.starts,
+            Buffer::Fingerprints | Buffer::Lone | Buffer::Counts | Buffer::Sums => self.slots,
+        }
+    }
+
+    // How many elements of a buffer are lent.
+    pub fn end_of(self, buffer: Buffer) -> usize
+        ensures { result ≤ max_slots + 8 }
+    {
+        let needed = self.needed_of(buffer);
+        let end = if self.short == Some(buffer) {
+            needed.saturating_sub(1)
+        } else {
+            needed.saturating_add(self.spare)
+        };
+        end.min(LENGTH)
+    }
 }

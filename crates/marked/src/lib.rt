@@ -2,8 +2,6 @@
 // lent memory. These functions are proved safe; what they print is compared, not promised.
 #![tactic(auto)]
 
-mod bits16;
-mod bits8;
 pub mod buffers;
 pub mod call;
 mod left;

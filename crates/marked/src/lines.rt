@@ -1,43 +1,65 @@
-// The words of a line: what is called, and what a success answers.
-use descriptor::Descriptor;
-use std::io;
+// The words of a line: what is called, and what it answers.
+use answers::Refusal;
+use plan::Built;
+use samples::Width;
+use std::{fmt, io};
 
 // Lists of this length or less are printed.
 const FEW: usize = 9;
 
-// What is called, with how many keys (and which, where they are few), and the limit or number.
-pub fn heading(
-    rt: &impl Print,
-    call: &[u8],
-    keys: &[u64],
-    name: &[u8],
-    number: u32,
-) -> io::Result<()> {
-    printing::text(rt, call)?;
-    printing::named(rt, b"of", keys.len() as u64)?;
-    printing::text(rt, b" keys")?;
-    if keys.len() <= FEW {
-        printing::numbers(rt, keys)?;
-    }
-    printing::text(rt, b",")?;
-    printing::named(rt, name, number as u64)
+// A build with its attempt limit, or an attempt with its number: how many keys (and which, where they are few), and that number by
+// its name.
+#[derive(Clone, Copy)]
+pub struct Call<'a> {
+    pub name: &'a str,
+    pub keys: &'a [u64],
+    pub number_name: &'a str,
+    pub number: u32,
 }
 
-// The answer, the digest of its fingerprints, and how many of the keys are listed then.
-pub fn built(
+impl fmt::Display for Call<'_> {
+    fn fmt<W: fmt::Write>(&self, f: &mut fmt::Formatter<W>) -> fmt::Result {
+        write!(f, "{} of {} keys", self.name, self.keys.len())?;
+        if self.keys.len() <= FEW {
+            for key in self.keys {
+                write!(f, " {key}")?;
+            }
+        }
+        write!(f, ", {} {}", self.number_name, self.number)
+    }
+}
+
+pub fn answered<W: Width>(
     rt: &impl Print,
-    d: Descriptor,
-    slots: usize,
-    attempt: u32,
-    digest: u64,
-    listed: u64,
+    answer: Result<Built, Refusal>,
+    keys: &[u64],
+    fingerprints: &[W],
 ) -> io::Result<()> {
-    printing::text(rt, b":")?;
-    printing::named(rt, b"attempt", attempt as u64)?;
-    printing::named(rt, b"seed", d.seed)?;
-    printing::named(rt, b"L", d.segment_length as u64)?;
-    printing::named(rt, b"count length", d.segment_count_length as u64)?;
-    printing::named(rt, b"A", slots as u64)?;
-    printing::named(rt, b"digest", digest)?;
-    printing::named(rt, b"listed", listed)
+    match answer {
+        Ok(list) => built(rt, list, keys, fingerprints),
+        Err(why) => print!(rt; "{why}"),
+    }
+}
+
+// With the digest of its fingerprints, and how many of the keys are listed then.
+fn built<W: Width>(
+    rt: &impl Print,
+    list: Built,
+    keys: &[u64],
+    fingerprints: &[W],
+) -> io::Result<()> {
+    let d = list.descriptor;
+    let slots = (list.slots as usize).min(fingerprints.len());
+    let fingerprints = &fingerprints[..slots];
+    let digest = samples::digest(fingerprints, slots);
+    let listed = keys
+        .iter()
+        .filter(|key| W::contains(d, fingerprints, **key) == Ok(true))
+        .count();
+    print!(rt; "attempt {} seed {} ", list.attempt, d.seed)?;
+    print!(rt;
+        "L {} count length {} ",
+        d.segment_length, d.segment_count_length
+    )?;
+    print!(rt; "A {slots} digest {digest} listed {listed}")
 }

@@ -1,4 +1,4 @@
-pub mod Clearing
+pub mod Same
 pub mod Packed
 pub mod KeyAdded
 pub mod SumsGrow

@@ -1,66 +1,64 @@
 -- The sums of the first hashes, from none on, one more at a time. Assumes nothing.
-use mathlib.Core.Path.{◌≡◌, refl, sym, ap, ap₂, ◌∙◌}
-use mathlib.Core.List.{List, [], ◌∷◌, ◌++◌, map}
-use Prim.Native.Nat.{ℕ, zero, suc, ◌+◌, ◌/◌, ◌%◌, ◌≤◌, ◌<◌}
-use native.Mathlib.Numerals.{add-one}
-use native.Mathlib.Omega.{arith}
-use lib.ListN.{length, get_or, take, replicate, length-map}
-use lib.Seq.{take-suc, take_all, length-take-le}
+use Rattle.std.proofs.Common.{◌≡◌, sym, ap, ap₂, ◌∙◌, List, [], ◌∷◌, ◌++◌, ℕ, ◌+◌, ◌/◌, ◌%◌, ◌≤◌, ◌<◌, length, get_or, take, replicate, arith}
+use Rattle.std.proofs.lemmas.List.{length-take-le, take_all, take_more}
+use Rattle.arith.specs.Numbers.{map_replicate}
 use Rattle.stuck.specs.Stuck.{Slots}
 use Rattle.stuck.specs.Ring.{Apart}
 use Rattle.machine.specs.Machine.{sums_of}
 use Rattle.machine.specs.Known.{Long}
 use Rattle.machine.specs.Start as Start
 use Rattle.machine.specs.SumsByKey.{add_key, sums_none, sums_snoc}
+use Rattle.peel.specs.declared.sums.Sums.{Sums}
 use Rattle.peel.specs.Buffers.{sums_in}
 use Rattle.peel.specs.CountsExact.{counts_at_most}
+use Rattle.peel.specs.Held.{sums_at, SameSums}
+use Rattle.peel.proofs.Same.{sums_stay, sums_then}
 
-zeros : (f : ℕ → ℕ) → f 0 ≡ 0 → (n : ℕ) → map f (replicate n 0) ≡ replicate n 0
-zeros f e zero = refl
-zeros f e (suc n) = ap₂ ◌∷◌ e (zeros f e n)
+-- how many slots there are
+abbrev size : Sums → ℕ
+size sums = length sums.counts.now
 
 -- the buffers hold the sums of the first i hashes
-pub record Counting (slots : ℕ → Slots) (n : ℕ) (hashes counts sums : List ℕ) (i : ℕ) : Type 0 where
+pub record Counting (slots : ℕ → Slots) (hashes : List ℕ) (start sums : Sums) (i : ℕ) : Type 0 where
   pub within : i ≤ length hashes
-  pub sums_are : sums_in counts sums ≡ sums_of slots n (take i hashes)
+  pub same : SameSums start sums
+  pub sums_are : sums_at sums ≡ sums_of slots (size start) (take i hashes)
 
-pub count_start : {slots : ℕ → Slots} {n : ℕ} {hashes counts sums : List ℕ} → counts ≡ replicate n 0 → sums ≡ replicate n 0
-    → Counting slots n hashes counts sums 0
-unfolding sums_in
-count_start {slots} {n} ec es =
-    record {
-      within = omega arith;
-      sums_are = ap₂ sums_in ec es ∙ (λ i. record {
-        counts = zeros (λ packed. packed / 4) refl n i;
-        hashes = replicate n 0;
-        positions = zeros (λ packed. packed % 4) refl n i;
-      }) ∙ sym (sums_none slots n);
-    }
-
-module _ {slots : ℕ → Slots} {n : ℕ} {hashes counts sums : List ℕ} {i : ℕ} (k : Counting slots n hashes counts sums i) where
-  long : Long n (sums_in counts sums)
-  long = rw k.sums_are (Start.sums_long slots (take i hashes) n)
-
-  pub counts_long : length counts ≡ n
+module _ {slots : ℕ → Slots} {hashes : List ℕ} {start : Sums} where
+  pub count_start : start.counts.now ≡ replicate (size start) 0 → start.hashes.now ≡ replicate (size start) 0 → Counting slots hashes start start 0
   unfolding sums_in
-  counts_long = sym (length-map counts (λ packed. packed / 4)) ∙ long.in_counts
-
-  pub sums_long : length sums ≡ n
-  unfolding sums_in
-  sums_long = long.in_hashes
-
-  pub counts_few : (slot : ℕ) → get_or counts slot 0 / 4 ≤ i
-  counts_few slot = omega (arith, counts_at_most slots n (take i hashes) counts sums k.sums_are slot, length-take-le i hashes k.within)
-
-  pub count_step : {counts' sums' : List ℕ} {hash : ℕ} → i < length hashes → hash ≡ get_or hashes i 0 → Apart n (slots hash)
-      → sums_in counts' sums' ≡ add_key (slots hash) hash (sums_in counts sums) → Counting slots n hashes counts' sums' (i + 1)
-  count_step {hash = hash} lt is apart e =
+  count_start ec eh =
       record {
         within = omega arith;
-        sums_are = e ∙ ap (add_key (slots hash) hash) k.sums_are ∙ sums_snoc slots n (take i hashes) hash apart
-            ∙ ap (sums_of slots n)
-            (ap (λ (h : ℕ). take i hashes ++ (h ∷ [])) is ∙ sym (take-suc hashes i 0 lt) ∙ ap (λ (j : ℕ). take j hashes) (sym (add-one i)));
+        same = sums_stay;
+        sums_are = ap₂ sums_in ec eh ∙ (λ i. record {
+          counts = map_replicate (λ (packed : ℕ). packed / 4) (size start) 0 i;
+          hashes = replicate (size start) 0;
+          positions = map_replicate (λ (packed : ℕ). packed % 4) (size start) 0 i;
+        }) ∙ sym (sums_none slots (size start));
       }
 
-  pub count_end : length hashes ≤ i → sums_in counts sums ≡ sums_of slots n hashes
-  count_end le = k.sums_are ∙ ap (sums_of slots n) (take_all i hashes le)
+  module _ {sums : Sums} {i : ℕ} (k : Counting slots hashes start sums i) where
+    long : Long (size start) (sums_at sums)
+    long = rw k.sums_are (Start.sums_long slots (take i hashes) (size start))
+
+    pub hashes_long : length sums.hashes.now ≡ size start
+    unfolding sums_in
+    hashes_long = long.in_hashes
+
+    pub counts_few : (slot : ℕ) → get_or sums.counts.now slot 0 / 4 ≤ i
+    counts_few slot =
+        omega (arith, counts_at_most slots (size start) (take i hashes) sums.counts.now sums.hashes.now k.sums_are slot, length-take-le i hashes k.within)
+
+    pub count_step : {new : Sums} {hash : ℕ} → i < length hashes → hash ≡ get_or hashes i 0 → Apart (size start) (slots hash) → SameSums sums new
+        → sums_at new ≡ add_key (slots hash) hash (sums_at sums) → Counting slots hashes start new (i + 1)
+    count_step {new} {hash} lt is apart same e =
+        record {
+          within = omega arith;
+          same = sums_then k.same same;
+          sums_are = e ∙ ap (add_key (slots hash) hash) k.sums_are ∙ sums_snoc slots (size start) (take i hashes) hash apart
+              ∙ ap (sums_of slots (size start)) (ap (λ (h : ℕ). take i hashes ++ (h ∷ [])) is ∙ sym (take_more hashes i 0 lt));
+        }
+
+    pub count_end : length hashes ≤ i → sums_at sums ≡ sums_of slots (size start) hashes
+    count_end le = k.sums_are ∙ ap (sums_of slots (size start)) (take_all i hashes le)

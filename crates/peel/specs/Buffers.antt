@@ -3,7 +3,7 @@
 -- taken lie in two lists, by hash and by position. Assumes nothing.
 use Rattle.std.specs.Prelude.{List, [], ◌∷◌, ◌++◌, map, reverse, ℕ, zero, suc, ◌/◌, ◌%◌, get_or, take}
 use Rattle.stuck.specs.Stuck.{Pick, pick}
-use Rattle.machine.specs.Machine.{Sums, State}
+use Rattle.machine.specs.Machine.{Sums}
 
 -- the most keys that a slot can count: 16 bits hold count × 4 + 3 up to there
 abbrev pub max_touches : ℕ
@@ -24,9 +24,6 @@ sums_in counts sums = record { counts = counts_in counts; hashes = sums; positio
 -- the first `top` of the list, the last stacked first
 unfoldable pub stack_of : List ℕ → ℕ → List ℕ
 stack_of lone top = reverse (take top lone)
-
-abbrev pub state_in : List ℕ → List ℕ → List ℕ → ℕ → State
-state_in counts sums lone top = record { sums = sums_in counts sums; stack = stack_of lone top }
 
 -- the first k of the two lists, as keys taken, the first taken first
 unfoldable pub picks_in : ℕ → List ℕ → List ℕ → List Pick

@@ -1,6 +1,8 @@
 pub mod Segments
 pub mod Buffers
 pub mod Requires
+pub mod Held
+pub mod Steps
 pub mod SlotsApart
 pub mod SlotsRead
 pub mod Picks

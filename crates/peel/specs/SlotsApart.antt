@@ -1,7 +1,7 @@
 -- The three slots of a hash under a layout differ and are below the number of slots; and the hashes of the keys, one by one. Assumes nothing.
-use Rattle.std.specs.Prelude.{◌≡◌, refl, List, [], ◌∷◌, ℕ, zero, suc, ◌+◌, ◌-◌, ◌*◌, ◌^◌, ◌<◌, length, get_or}
+use Rattle.std.specs.Prelude.{◌≡◌, List, ℕ, ◌+◌, ◌-◌, ◌*◌, ◌^◌, ◌<◌, length, get_or}
 use Rattle.std.proofs.Common.{arith}
-use Rattle.std.proofs.lemmas.List.{length-map}
+use Rattle.std.proofs.lemmas.List.{length-map, get_or-map}
 use Rattle.arith.specs.Murmur3.{hash_of}
 use Rattle.arith.specs.OneToOne.{hash-lt}
 use Rattle.arith.specs.Slots.{slot0, slot1, slot2}
@@ -42,9 +42,7 @@ hashes_length seed keys = length-map keys (λ key. hash_of key seed)
 
 pub hashes_at : (seed : ℕ) (keys : List ℕ) (i : ℕ) → i < length keys → get_or (hashes_of seed keys) i 0 ≡ hash_of (get_or keys i 0) seed
 unfolding hashes_of
-hashes_at seed [] i h = absurd (omega arith)
-hashes_at seed (key ∷ keys) zero h = refl
-hashes_at seed (key ∷ keys) (suc i) h = hashes_at seed keys i (omega arith)
+hashes_at seed keys i h = get_or-map (λ key. hash_of key seed) keys i 0 0 h
 
 pub hashes_small : (seed : ℕ) (keys : List ℕ) (i : ℕ) → i < length (hashes_of seed keys) → get_or (hashes_of seed keys) i 0 < 2 ^ 64
 hashes_small seed keys i h = rw (hashes_at seed keys i (omega (arith, hashes_length seed keys))) (hash-lt (get_or keys i 0) seed)

@@ -2,40 +2,48 @@
 #![tactic(auto)]
 
 ghost use Rattle.std.specs.Prelude.{◌≡◌, length};
+ghost use Rattle.scratch.specs.Lent.{SameBuffers};
 ghost use Rattle.peel.specs.Buffers.{picks_in};
 ghost use Rattle.peel.specs.Requires.{CanRun};
 ghost use Rattle.peel.specs.Picks.{picks_of_keys};
 
-pub mod clear;
 mod count;
 mod scan;
+mod stack;
+mod sums;
 mod take;
+mod taken;
 
-use count::count_keys;
-use scan::stack_lone;
-use take::take_all;
+use arith::slots::Segments;
+use scratch::Scratch;
+use stack::Stack;
+use sums::Sums;
+use taken::Taken;
 
 // One attempt, where counts and sums are clear. Returns how many keys are taken; `order` and `positions` begin with them, the first taken
 // first. What the other buffers hold then is not said: the caller clears them.
-pub fn run(
-    keys: &[u64],
-    seed: u64,
-    segment: u32,
-    mask: u32,
-    span: u32,
-    lone: &mut [u32],
-    counts: &mut [u16],
-    sums: &mut [u64],
-    order: &mut [u64],
-    positions: &mut [u8],
-) -> usize
-    requires { CanRun segment mask span keys.now lone.old counts.old sums.old order.old positions.old }
-    ensures { picks_in result order.new positions.new
-        ≡ picks_of_keys segment mask span (length counts.old) seed keys.now }
+pub fn run(keys: &[u64], seed: u64, segments: Segments, scratch: &mut Scratch) -> usize
+    requires { CanRun segments.length segments.mask segments.span keys.now scratch.old.lone.now scratch.old.counts.now scratch.old.sums.now scratch.old.order.now scratch.old.positions.now }
+    ensures same { SameBuffers scratch.old scratch.new }
+    ensures starts { scratch.new.starts.now ≡ scratch.old.starts.now }
+    ensures picks { picks_in result scratch.new.order.now scratch.new.positions.now
+        ≡ picks_of_keys segments.length segments.mask segments.span (length scratch.old.counts.now) seed keys.now }
 {
-    count_keys(keys, seed, segment, mask, span, counts, sums);
-    let stacked = stack_lone(counts, lone);
-    take_all(
-        counts, sums, lone, stacked, order, positions, segment, mask, span,
-    )
+    let mut sums = Sums {
+        counts: scratch.counts,
+        hashes: scratch.sums,
+    };
+    let mut stack = Stack {
+        slots: scratch.lone,
+        top: 0,
+    };
+    let mut taken = Taken {
+        order: scratch.order,
+        positions: scratch.positions,
+        count: 0,
+    };
+    sums.count_keys(keys, seed, segments);
+    sums.stack_lone(&mut stack);
+    sums.take_all(&mut stack, &mut taken, segments);
+    taken.count
 }

@@ -1,20 +1,18 @@
 // The slots that one key alone touches.
-ghost use Rattle.peel.specs.Requires.{CanScan, Scanned};
+ghost use Rattle.peel.specs.Steps.{CanScan, Scanned};
 
-// They are stacked from the lowest on: each slot is stored at the top, and the top goes up where the slot is touched once. Returns
-// how many are stacked.
-pub fn stack_lone(counts: &[u16], lone: &mut [u32]) -> usize
-    requires { CanScan counts.now lone.old }
-    ensures { Scanned counts.now lone.new result }
-{
-    let mut top = 0;
-    let mut i = 0;
-    while i < counts.len() {
-        lone[top] = i as u32;
-        if counts[i] / 4 == 1 {
-            top += 1;
+use crate::stack::Stack;
+use crate::sums::Sums;
+
+impl Sums<'_> {
+    // They are stacked from the lowest on, onto a stack of none.
+    #[tactic(auto, using(crate::proofs::Scanning::scan_start, crate::proofs::Scanning::scan_step, crate::proofs::Scanning::scan_end))]
+    pub fn stack_lone(&self, stack: &mut Stack)
+        requires { CanScan self.now stack.old }
+        ensures { Scanned self.now stack.old stack.new }
+    {
+        for (slot, packed) in self.counts.iter().enumerate() {
+            stack.push_if(slot as u32, *packed / 4 == 1);
         }
-        i += 1;
     }
-    top
 }

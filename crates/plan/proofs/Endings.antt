@@ -3,7 +3,10 @@
 use lib.Seq.{take_at, drop_at}
 use Rattle.std.proofs.Common.{◌≡◌, refl, sym, ap, ◌∙◌, Bool, true, false, List, ℕ, zero, suc, ◌+◌, ◌≤◌, arith, length, drop, replicate, length-append}
 use Rattle.std.proofs.lemmas.List.{length-replicate}
+use Rattle.std.specs.Prelude.{Ok}
 use Rattle.descriptor.specs.declared.Descriptor.{Descriptor}
+use Rattle.scratch.specs.declared.Scratch.{Scratch}
+use Rattle.scratch.specs.Lent.{SameBuffers}
 use Rattle.layout.specs.Layout.{slot_count_of, bucket_starts_of}
 use Rattle.repeats.specs.Repeats.{repeats?}
 use Rattle.peel.specs.Taken.{can_fill, filled}
@@ -26,11 +29,11 @@ cleared : {needed : ℕ} (before : List ℕ) {after : List ℕ} → length befor
 cleared before is e = e ∙ ap (λ (k : ℕ). replicate k 0) is
 
 -- what can be planned on still can where only lengths are kept
-pub same_lengths : {keys : List ℕ} {first last slots : ℕ} {lone counts sums positions order starts : List ℕ}
-    → CanPlan keys first last slots lone counts sums positions order starts → (lone₁ counts₁ sums₁ positions₁ order₁ : List ℕ)
-    → length lone₁ ≡ length lone → length counts₁ ≡ length counts → length sums₁ ≡ length sums → length positions₁ ≡ length positions
-    → length order₁ ≡ length order → CanPlan keys first last slots lone₁ counts₁ sums₁ positions₁ order₁ starts
-same_lengths can lone₁ counts₁ sums₁ positions₁ order₁ l c s p o =
+pub still : {keys : List ℕ} {first last slots : ℕ} {before after : Scratch}
+    → CanPlan keys first last slots before.lone.now before.counts.now before.sums.now before.positions.now before.order.now before.starts.now
+    → SameBuffers before after
+    → CanPlan keys first last slots after.lone.now after.counts.now after.sums.now after.positions.now after.order.now after.starts.now
+still can same =
     let seek = can.can_seek in
     record {
       can_seek =
@@ -41,17 +44,17 @@ same_lengths can lone₁ counts₁ sums₁ positions₁ order₁ l c s p o =
             can_attempt =
                 record {
                   few = seek.can_attempt.few;
-                  lone_length = l ∙ seek.can_attempt.lone_length;
-                  counts_length = c ∙ seek.can_attempt.counts_length;
-                  sums_length = s ∙ seek.can_attempt.sums_length;
-                  positions_room = omega (arith, p, seek.can_attempt.positions_room);
-                  order_room = omega (arith, o, seek.can_attempt.order_room);
+                  lone_length = same.lone_length ∙ seek.can_attempt.lone_length;
+                  counts_length = same.counts_length ∙ seek.can_attempt.counts_length;
+                  sums_length = same.sums_length ∙ seek.can_attempt.sums_length;
+                  positions_room = omega (arith, same.positions_length, seek.can_attempt.positions_room);
+                  order_room = omega (arith, same.order_length, seek.can_attempt.order_room);
                 };
           };
       slots_are = can.slots_are;
-      positions_length = p ∙ can.positions_length;
-      order_length = o ∙ can.order_length;
-      starts_length = can.starts_length;
+      positions_length = same.positions_length ∙ can.positions_length;
+      order_length = same.order_length ∙ can.order_length;
+      starts_length = same.starts_length ∙ can.starts_length;
     }
 
 -- the lists as the search left them, and the tables cleared then
@@ -92,7 +95,7 @@ module _ {keys : List ℕ} {first last slots : ℕ} {lone counts sums positions 
     unfolding fingerprints_at picks_at
     fingerprints_are w = rw (described, can.slots_are) (filled _ _ _ _ _ keys w n order positions (sought.there some).1)
 
-    pub ends_found : Ended keys first last (Found d slots found) (scratch lone' counts' sums' positions order starts')
+    pub ends_found : Ended keys first last (Ok (Found (record { descriptor = d; slots = slots; attempt = found }))) (scratch lone' counts' sums' positions order starts')
     ends_found =
         record {
           can = λ m.

@@ -1,4 +1,3 @@
-pub mod Paper
 pub mod FirstFault
 pub mod Suited
 pub mod Answered

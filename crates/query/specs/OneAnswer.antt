@@ -1,35 +1,23 @@
 -- No other answer of `contains`, `contains_bytes` or `contains_told` fits its promise, at any width. Assumes nothing.
-use Rattle.std.specs.Prelude.{◌≡◌, refl, Bool, true, false, List, ℕ}
-use Rattle.std.proofs.Common.{sym, ap, ◌∙◌}
+use Rattle.std.specs.Prelude.{◌≡◌, Bool, List, ℕ, Result}
+use Rattle.std.proofs.Common.{sym, ◌∙◌}
+use Rattle.answers.specs.declared.Refusal.{Refusal}
 use Rattle.answers.specs.Answers.{Answer}
-use Rattle.answers.specs.OneNumber.{refusal_number}
-use Rattle.answers.specs.OneAnswer.{answer_of, only_answer}
+use Rattle.answers.specs.Paper.{paper}
+use Rattle.answers.specs.OneReading.{one_answer}
 use Rattle.fuse.specs.Query.{contains_of, contains_bytes_of, told}
-use Rattle.query.specs.declared.ContainsAnswer.{ContainsAnswer}
-use Rattle.query.specs.declared.ContainsAnswer.TheVariants.{No, Yes, Refused}
-use Rattle.query.specs.Paper.{paper}
-
-answered : Bool → ContainsAnswer
-answered false = No
-answered true = Yes
-
-contains_told : (r : ContainsAnswer) → answer_of answered Refused (paper r) ≡ r
-unfolding answered
-contains_told No = refl
-contains_told Yes = refl
-contains_told (Refused why) = ap Refused (refusal_number why)
 
 -- two answers that are both what `promised` says of a descriptor (the record or its bytes), fingerprints and a key are the same
 abbrev pub OneAnswer : {D : Type 0} → (promised : D → List ℕ → ℕ → Answer Bool) → Type 0
 OneAnswer {D} promised =
-    (descriptor : D) (fingerprints : List ℕ) (key : ℕ) (r s : ContainsAnswer)
+    (descriptor : D) (fingerprints : List ℕ) (key : ℕ) (r s : Result Bool Refusal)
     → paper r ≡ promised descriptor fingerprints key → paper s ≡ promised descriptor fingerprints key → r ≡ s
 
 pub one_contains : (w : ℕ) → OneAnswer (contains_of w)
-one_contains w descriptor fingerprints key = only_answer paper (answer_of answered Refused) contains_told
+one_contains w descriptor fingerprints key = one_answer
 
 pub one_contains_bytes : (w : ℕ) → OneAnswer (contains_bytes_of w)
-one_contains_bytes w descriptor fingerprints key = only_answer paper (answer_of answered Refused) contains_told
+one_contains_bytes w descriptor fingerprints key = one_answer
 
 -- and so are two numbers that a C program may be told
 abbrev pub OneTold : (w : ℕ) → Type 0

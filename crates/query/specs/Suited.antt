@@ -1,22 +1,21 @@
 -- What the answer whether checks 8 to 11 pass says of a query, at any width: where they pass, the record is good and each of its slots has a
--- fingerprint; where they do not, a C program is told of the first fault. Assumes nothing.
+-- fingerprint; where they do not, the answer is the first fault. Assumes nothing.
 use Rattle.std.specs.Prelude.{◌≡◌, refl, Bool, true, false, not, List, ℕ, eqb, length}
-use Rattle.std.proofs.Common.{sym, ap, ◌∙◌, eqb-true}
+use Rattle.std.proofs.Common.{sym, ◌∙◌, eqb-true}
 use Rattle.std.proofs.lemmas.Bool.{false≢true, not-true, not-false}
 use Rattle.answers.specs.Answers.{Answer, refuses, gives}
 use Rattle.answers.specs.Checks.{Done, done, refuse_if, ◌then◌}
 use Rattle.descriptor.specs.declared.Descriptor.{Descriptor}
 use Rattle.descriptor.specs.Descriptor.{check_of}
-use Rattle.fuse.specs.Query.{yes?, fingerprints_for, accepts, contains_of, told}
+use Rattle.fuse.specs.Query.{yes?, fingerprints_for, accepts, contains_of}
 use Rattle.query.specs.FirstFault.{passed?, suits_of, first_fault}
 
 -- of a descriptor and the fingerprints asked with it
 abbrev pub suits? : Descriptor → List ℕ → Bool
-suits? d fingerprints = suits_of d.segment_length d.segment_length_mask d.segment_count_length (length fingerprints)
+suits? d fingerprints = suits_of d (length fingerprints)
 
 -- the checks are document 01's
 pub suits_accepts : (d : Descriptor) (fingerprints : List ℕ) → suits? d fingerprints ≡ passed? (accepts d fingerprints)
-unfolding check_of
 suits_accepts d fingerprints = refl
 
 -- ---- where they pass
@@ -32,9 +31,7 @@ both_passed (gives done) true e = (refl, refl)
 
 pub suited : (d : Descriptor) (fingerprints : List ℕ) {suits : Bool} → suits ≡ suits? d fingerprints → not suits ≡ false → Suited d fingerprints
 suited d fingerprints is left =
-    let both =
-    both_passed (check_of d) (eqb (length fingerprints) (fingerprints_for d)) (sym (is ∙ suits_accepts d fingerprints) ∙ not-false _ left)
-    in
+    let both = both_passed (check_of d) (eqb (length fingerprints) (fingerprints_for d)) (sym is ∙ not-false _ left) in
     record { good = both.0; whole = eqb-true (length fingerprints) (fingerprints_for d) both.1 }
 
 -- ---- where they do not
@@ -45,11 +42,9 @@ first_fault_lem (refuses number) same listed e = refl
 first_fault_lem (gives done) false listed e = refl
 first_fault_lem (gives done) true listed e = absurd (false≢true (sym e))
 
-pub unsuited : (w : ℕ) (d : Descriptor) (fingerprints : List ℕ) (key : ℕ) {suits : Bool} {code : ℕ} → suits ≡ suits? d fingerprints → not suits ≡ true
-    → code ≡ told (first_fault d.segment_length d.segment_length_mask d.segment_count_length) → code ≡ told (contains_of w d fingerprints key)
-unfolding contains_of check_of
+pub unsuited : (w : ℕ) (d : Descriptor) (fingerprints : List ℕ) (key : ℕ) {suits : Bool} {answer : Answer Bool} → suits ≡ suits? d fingerprints
+    → not suits ≡ true → answer ≡ first_fault d → answer ≡ contains_of w d fingerprints key
+unfolding contains_of
 unsuited w d fingerprints key is taken e =
     e
-    ∙ ap told
-    (first_fault_lem (check_of d) (eqb (length fingerprints) (fingerprints_for d)) (yes? w d fingerprints key)
-    (sym (is ∙ suits_accepts d fingerprints) ∙ not-true _ taken))
+    ∙ first_fault_lem (check_of d) (eqb (length fingerprints) (fingerprints_for d)) (yes? w d fingerprints key) (sym is ∙ not-true _ taken)

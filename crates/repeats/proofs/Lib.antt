@@ -1,3 +1,1 @@
-pub mod FromPlace
-pub mod Exchanged
 pub mod Neighbours

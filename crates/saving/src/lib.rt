@@ -5,6 +5,7 @@ ghost use Rattle.std.specs.Prelude.{◌<◌, IfSome};
 ghost use Rattle.saving.specs.Beside.{IsBeside};
 
 use arrayvec::ArrayString;
+use files::{or_say, say};
 use std::fs::{OpenFile, OpenOptions};
 use std::io::Write;
 use std::random::RandomSource;
@@ -20,48 +21,32 @@ const PATH_MAX: usize = 4096;
 // For the longest name, `.part-` and the digits.
 const NAME_ROOM: usize = PATH_MAX + 6 + DIGITS;
 
-// Whether a new file may take the list's name: nobody has it, or a plain file that is not the text. If not, it is said why.
-pub fn may_replace<R: Files + Eprint>(rt: &R, text: &[u8], list: &[u8]) -> bool {
+// That a new file may take the list's name: nobody has it, or a plain file that is not the text. If not, it is said why.
+pub fn may_replace<R: Files + Eprint>(rt: &R, text: &[u8], list: &[u8]) -> Option<()> {
     let there = names::itself(rt, list);
-    if names::special(there) {
+    if there.is_some_and(|seen| seen.is_special()) {
         files::not_plain(rt, list);
-        return false;
+        return None;
     }
-    if names::same(there, names::led_to(rt, text)) {
-        files::say(rt, list);
-        files::say(rt, b": text and list are the same file\n");
-        return false;
+    let read = names::led_to(rt, text);
+    if there.zip(read).is_some_and(|(a, b)| a.is_same_file(b)) {
+        say(rt, list, "text and list are the same file");
+        return None;
     }
-    true
+    Some(())
 }
 
 // The two parts of a list under this name. They are written to a new file of another name, which then takes this one: so there is
-// never half a list under it, and no two runs write to one file.
+// never half a list under it, and no two runs write to one file. If it was not written, it is said why.
 pub fn write<R: Files + Eprint + RandomSource>(
     rt: &R,
     path: &[u8],
     head: &[u8],
     body: &[u8],
-) -> bool {
-    match files::name(path) {
-        Ok(name) => write_beside(rt, name, head, body),
-        Err(why) => {
-            files::failed(rt, path, why);
-            false
-        }
-    }
-}
-
-fn write_beside<R: Files + Eprint + RandomSource>(
-    rt: &R,
-    path: &str,
-    head: &[u8],
-    body: &[u8],
-) -> bool {
-    match beside(rt, path) {
-        Some(part) => replace(rt, path, part.as_str(), head, body),
-        None => false,
-    }
+) -> Option<()> {
+    let name = or_say(rt, path, files::name(path))?;
+    let part = beside(rt, name)?;
+    replace(rt, name, part.as_str(), head, body)
 }
 
 // The name of the file beside it: the path, `.part-` and random digits. If there is none, it is said why.
@@ -69,14 +54,11 @@ fn beside<R: Eprint + RandomSource>(rt: &R, path: &str) -> Option<ArrayString<NA
     ensures { IfSome result (λ name. IsBeside path.now name.bytes) }
 {
     if path.len() > PATH_MAX {
-        long_name(rt, path);
+        say(rt, path.as_bytes(), "name too long");
         return None;
     }
     let mut drawn = [0u8; DIGITS];
-    if let Err(why) = rt.fill_bytes(&mut drawn) {
-        files::failed(rt, b"random digits", why);
-        return None;
-    }
+    or_say(rt, b"random digits", rt.fill_bytes(&mut drawn))?;
     let mut name = ArrayString::<NAME_ROOM>::new();
     name.push_str(path);
     name.push_str(".part-");
@@ -90,46 +72,36 @@ fn beside<R: Eprint + RandomSource>(rt: &R, path: &str) -> Option<ArrayString<NA
 fn digit(byte: u8) -> char
     ensures { result < 128 }
 {
-    let x = byte % 16;
-    char::from(if x < 10 { b'0' + x } else { b'a' - 10 + x })
-}
-
-fn long_name(rt: &impl Eprint, path: &str) {
-    files::say(rt, path.as_bytes());
-    files::say(rt, b": name too long\n");
+    char::from_digit(u32::from(byte % 16), 16).unwrap()
 }
 
 // `create_new` takes no name that is there.
-fn replace<R: Files + Eprint>(rt: &R, path: &str, part: &str, head: &[u8], body: &[u8]) -> bool {
+fn replace<R: Files + Eprint>(
+    rt: &R,
+    path: &str,
+    part: &str,
+    head: &[u8],
+    body: &[u8],
+) -> Option<()> {
     let made = OpenOptions::new()
         .write(true)
         .create_new(true)
         .open(rt, part);
-    let file = match made {
-        Ok(file) => file,
-        Err(why) => {
-            files::failed(rt, part.as_bytes(), why);
-            return false;
-        }
-    };
-    if let Err(why) = put(file, head, body) {
-        files::failed(rt, part.as_bytes(), why);
+    let file = or_say(rt, part.as_bytes(), made)?;
+    let saved = or_say(rt, part.as_bytes(), put(file, head, body)).and_then(|()| or_say(
+        rt,
+        path.as_bytes(),
+        fs::rename(rt, part, path),
+    ));
+    if saved.is_none() {
         remove(rt, part);
-        return false;
     }
-    if let Err(why) = fs::rename(rt, part, path) {
-        files::failed(rt, path.as_bytes(), why);
-        remove(rt, part);
-        return false;
-    }
-    true
+    saved
 }
 
 fn remove<R: Files + Eprint>(rt: &R, part: &str) {
-    if let Err(why) = fs::remove_file(rt, part) {
-        files::failed(rt, part.as_bytes(), why);
-        files::say(rt, part.as_bytes());
-        files::say(rt, b": left behind, and no list\n");
+    if or_say(rt, part.as_bytes(), fs::remove_file(rt, part)).is_none() {
+        say(rt, part.as_bytes(), "left behind, and no list");
     }
 }
 

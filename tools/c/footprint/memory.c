@@ -127,11 +127,49 @@ static size_t deepest(void (*call)(void), uint32_t due) {
     return most;
 }
 
-int main(void) {
+/* ---- Keys ---- */
+
+static void spread_keys(void) {
     size_t i;
     for (i = 0; i < MOST; i++) {
         keys[i] = i * UINT64_C(0x9e3779b97f4a7c15);
     }
+}
+
+/* Two keys equal, in three orders of the keys: scattered, rising but for the last, and up and down. */
+static void repeated_keys(size_t n, int order_of) {
+    size_t i;
+    for (i = 0; i < n; i++) {
+        uint64_t x = i * UINT64_C(0x9e3779b97f4a7c15);
+        x = (x ^ (x >> 29)) * UINT64_C(0xbf58476d1ce4e5b9);
+        keys[i] = order_of == 0 ? x ^ (x >> 32) : order_of == 1 ? i : i < n / 2 ? i : n - i;
+    }
+    keys[n - 1] = keys[0];
+}
+
+/* The most that a build took of such keys, which it refuses with 5 after it has looked for repeated keys. */
+static size_t deepest_repeated(void) {
+    static const size_t sizes[] = {20, 100, 1000, MOST};
+    size_t most = 0, nothing = depth(call_nothing), size;
+    int order_of;
+    for (size = 0; size < 4; size++) {
+        for (order_of = 0; order_of < 3; order_of++) {
+            size_t taken;
+            keys_length = sizes[size];
+            repeated_keys(keys_length, order_of);
+            taken = depth(call_build8) - nothing;
+            most = taken > most ? taken : most;
+            if (answer != GP_BUILD_REFUSED + 5) {
+                fprintf(stderr, "%zu keys, two equal: answer %lu\n", keys_length, (unsigned long)answer);
+                exit(2);
+            }
+        }
+    }
+    return most;
+}
+
+int main(void) {
+    spread_keys();
     print_buffers();
     puts("\n| stack of a call, as measured | bytes |\n|---|---|");
     printf("| gp_fuse8_build | %zu |\n", deepest(call_build8, 1));
@@ -139,5 +177,6 @@ int main(void) {
     printf("| gp_fuse8_contains | %zu |\n", deepest(call_query8, GP_YES));
     printf("| gp_fuse16_contains | %zu |\n", deepest(call_query16, GP_YES));
     printf("| gp_flush_key | %zu |\n", deepest(call_flush_key, 0));
+    printf("| gp_fuse8_build, two keys equal | %zu |\n", deepest_repeated());
     return 0;
 }

@@ -7,4 +7,4 @@ use Rattle.capacity.proofs.capacity.Goals as goal
 
 pub returns : goal.returns
 unfolding entries
-returns c = let n = c.args.n in subst (Capacity n) (sym c.wide.ensures) (entry n c.requires)
+returns c = let n = c.args.n in subst (Capacity n) (sym c.from.ensures) (entry n c.requires)

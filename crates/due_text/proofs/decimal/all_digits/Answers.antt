@@ -1,15 +1,12 @@
--- `due_text::decimal::all_digits`: the digits still to come decide. Assumes nothing.
-use Rattle.std.proofs.Common.{◌∙◌, sym, arith}
-use Rattle.due_text.proofs.Digits.{digit_passed, no_digit, all_passed}
+-- `due_text::decimal::all_digits`: digits are those of ASCII. Assumes nothing.
+use Rattle.std.proofs.Common.{◌∙◌, rules, tests}
+use Rattle.std.proofs.lemmas.Iterator.{YieldsList-from_slice}
+use Rattle.std.proofs.lemmas.Iterator.Search.{all_from_yields_List}
+use Rattle.std.specs.Char.{is_ascii_digit}
+use Rattle.due_text.proofs.Digits.{ascii}
 use Rattle.due_text.proofs.decimal.all_digits.Goals as goal
 
-pub returns-then-not-is_digit : goal.returns-then-not-is_digit
-returns-then-not-is_digit c =
-    sym (no_digit c.args.word.now c.loop-i.i c.loop-i-test.true (sym c.if-not-is_digit.ensures)) ∙ c.loop-i.invariant.1
-
-pub loop-i-preserved : goal.loop-i-preserved
-loop-i-preserved c =
-    (omega arith, sym (digit_passed c.args.word.now c.loop-i.i c.loop-i-test.true (sym c.if-not-is_digit.ensures)) ∙ c.loop-i.invariant.1)
-
 pub returns : goal.returns
-returns c = sym (all_passed c.args.word.now c.loop-i.i (omega arith)) ∙ c.loop-i.invariant.1
+returns c =
+    all_from_yields_List is_ascii_digit _ _ _ c.all.ensures.ran (YieldsList-from_slice c.args.word.now (cc)) (λ x b q k. search (rules, tests))
+    ∙ ascii c.args.word.now

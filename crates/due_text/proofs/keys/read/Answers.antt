@@ -1,31 +1,32 @@
--- `due_text::keys::read`: each line does to the keys so far what `after_line` says. Assumes nothing.
-use Rattle.std.proofs.Common.{sym, arith}
-use Rattle.due_text.proofs.SoFar.{no_line_left, bad_line, after_blank, no_place, repeated, after-key}
+-- `due_text::keys::read`: the lines in turn. Assumes nothing.
+use Rattle.std.proofs.Common.{rules, tests, ◌≡◌, ap, ◌∙◌, sym, ◌+◌, length}
+use Rattle.std.proofs.lemmas.List.{length_push}
+use Rattle.std.proofs.lemmas.Result.{err_from_is_err_and}
+use Rattle.due_text.specs.Keys.{keys_of, in_room}
+use Rattle.due_text.proofs.Lines.{line_turn, line_end}
+use Rattle.due_text.proofs.SoFar.{at_line, split_or_cut, all_read, stops, goes_on}
 use Rattle.due_text.proofs.keys.read.Goals as goal
-use Rattle.due_text.proofs.keys.read.Goals.{in-Blank, in-Key+else-count-room+else-among}
 
-pub returns-then-count-room : goal.returns-then-count-room
-returns-then-count-room c =
-    no_place c.loop-at.invariant c.loop-at-test.true c.find-end.ensures.place c.in-Key.ensures (omega arith)
+pub returns-in_err-count : goal.returns-in_err-count
+unfolding keys_of
+returns-in_err-count c =
+    let turn = line_turn _ _ _ _ _ c.loop-before.yielded_by c.next.ensures.steps c.args.text.now (cc) (cc) (cc) (λ x b q k. search (rules, tests)) c.in-Some.is in
+    let mapped : c.map_err.result ≡ at_line (length c.loop-before.yielded + 1) c.store.result = rw (← turn.1) (search rules) in
+    let p = err_from_is_err_and c.from_residual.result c.from_residual.ensures.1 in
+    rw (p.1, p.2) (stops c.loop-before.invariant.2 turn.0 turn.2 _ c.store.ensures (sym mapped ∙ c.in_err-count.was))
+    ∙ ap (in_room c.args.room.now) (split_or_cut _ c.args.text.now)
 
-pub returns-then-among : goal.returns-then-among
-returns-then-among c =
-    repeated c.loop-at.invariant c.loop-at-test.true c.find-end.ensures.place c.in-Key.ensures (omega arith) (sym c.if-among.ensures)
-
-pub returns-in-Bad : goal.returns-in-Bad
-returns-in-Bad c = bad_line c.loop-at.invariant c.loop-at-test.true c.find-end.ensures.place c.in-Bad.ensures
-
--- where a line's ways meet, its key is behind the others
-pub loop-at-preserved : goal.loop-at-preserved
-loop-at-preserved c =
-    let s = c.loop-at.invariant in
-    let found = c.find-end.ensures.place in
-    rw c.past-at.ensures
-    (elim c.match-said.branch [
-      | in-Blank w ↦ rw (w.room-is, w.count-is) (after_blank s c.loop-at-test.true found w.in-Blank.ensures)
-      | in-Key+else-count-room+else-among w ↦
-          rw (w.room-is, w.count-is) (after-key s c.loop-at-test.true found w.in-Key.ensures (omega arith) (sym w.if-among.ensures))
-    ])
+pub loop-before-preserved : goal.loop-before-preserved
+loop-before-preserved c =
+    let turn = line_turn _ _ _ _ _ c.loop-before.yielded_by c.next.ensures.steps c.args.text.now (cc) (cc) (cc) (λ x b q k. search (rules, tests)) c.in-Some.is in
+    let mapped : c.map_err.result ≡ at_line (length c.loop-before.yielded + 1) c.store.result = rw (← turn.1) (search rules) in (
+      search rules,
+      search rules,
+      rw length_push (goes_on c.loop-before.invariant.2 turn.0 turn.2 _ c.store.ensures (sym mapped ∙ c.in_ok-count.was) c.store.auto.room),
+    )
 
 pub returns : goal.returns
-returns c = no_line_left c.loop-at.invariant c.loop-at-test.false
+unfolding keys_of
+returns c =
+    let end = line_end _ _ _ _ _ c.loop-before.yielded_by c.next.ensures.steps c.args.text.now (cc) (cc) (cc) (λ x b q k. search (rules, tests)) c.in-None.is in
+    all_read c.loop-before.invariant.2 end ∙ ap (in_room c.args.room.now) (split_or_cut _ c.args.text.now)

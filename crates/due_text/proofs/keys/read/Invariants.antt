@@ -1,10 +1,12 @@
 -- The lines read so far, and those to come.
-use Rattle.std.proofs.Common.{length, ◌-◌}
+use Rattle.std.proofs.Common.{length}
+use Rattle.std.specs.List.{slice_split}
+use Rattle.due_text.specs.Cut.{newline?}
 use Rattle.due_text.proofs.SoFar.{SoFar}
 use Rattle.due_text.proofs.keys.read.Given as goal
 
-abbrev pub invariant-loop-at : goal.invariant-loop-at
-invariant-loop-at l = SoFar l.text l.fn.room l.room l.at l.number l.count
-
-abbrev pub decreases-loop-at : goal.decreases-loop-at
-decreases-loop-at l = length l.text - l.at
+abbrev pub invariant-loop-before : goal.invariant-loop-before
+invariant-loop-before l =
+    (goal.iterator-loop-before).can_next l.before-iterator
+    × (goal.iterator-loop-before).is_finite l.before-iterator
+    × SoFar (slice_split newline? l.text) l.fn.room l.room (length l.yielded) l.count

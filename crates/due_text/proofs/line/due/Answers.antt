@@ -1,30 +1,15 @@
--- `due_text::line::due`: each answer by the number that was read. Assumes nothing.
-use Rattle.std.proofs.Common.{ℕ, List, ◌∙◌, ap}
-use Rattle.due_text.specs.declared.decimal.Number.{Number}
-use Rattle.due_text.specs.declared.line.Line.{Line}
-use Rattle.due_text.specs.declared.line.Fault.TheVariants.{UnitAbove}
-use Rattle.due_text.specs.Line.{due_of, up_to, due_at_unit}
-use Rattle.due_text.proofs.Numbers.{above_last, up_to_last}
+-- `due_text::line::due`: the flush has its key, or a refusal. Assumes nothing.
+use Rattle.std.proofs.Common.{◌≡◌, rules, ◌∙◌, sym, arith}
+use Rattle.std.specs.Result.{result_map_both}
+use Rattle.answers.specs.Paper.{paper}
+use Rattle.due_text.specs.declared.line.Fault.TheVariants.{Refused}
+use Rattle.due_text.specs.Line.{due_of, due_at_unit, keyed_of}
+use Rattle.due_text.proofs.Bounds.{in_turn, told}
 use Rattle.due_text.proofs.line.due.Goals as goal
 
--- what is said with a unit that is not above the last
-abbrev next : (valve seconds : List ℕ) → ℕ → Line
-next valve seconds u = due_at_unit u valve seconds
-
-pub returns-then-unit-gt-LAST_UNIT : goal.returns-then-unit-gt-LAST_UNIT
-unfolding due_of
-returns-then-unit-gt-LAST_UNIT c =
-    above_last 65535 UnitAbove c.in-Value.ensures (next c.args.valve.now c.args.seconds.now) c.if-unit-gt-LAST_UNIT.true
-
-pub returns-else-unit-gt-LAST_UNIT : goal.returns-else-unit-gt-LAST_UNIT
-unfolding due_of
-returns-else-unit-gt-LAST_UNIT c =
-    c.due_at_unit.ensures ∙ up_to_last 65535 UnitAbove c.in-Value.ensures (next c.args.valve.now c.args.seconds.now) c.if-unit-gt-LAST_UNIT.false
-
-pub returns-in-NotDigits : goal.returns-in-NotDigits
-unfolding due_of
-returns-in-NotDigits c = ap (λ (n : Number). up_to 65535 UnitAbove n (next c.args.valve.now c.args.seconds.now)) c.in-NotDigits.ensures
-
-pub returns-in-TooLarge : goal.returns-in-TooLarge
-unfolding due_of
-returns-in-TooLarge c = ap (λ (n : Number). up_to 65535 UnitAbove n (next c.args.valve.now c.args.seconds.now)) c.in-TooLarge.ensures
+pub returns : goal.returns
+unfolding due_of due_at_unit
+returns c =
+    let said : c.map_err-2.result ≡ result_map_both (λ key. key) Refused c.flush_key.result = search rules in
+    let keyed : c.map_err-2.result ≡ keyed_of (paper c.flush_key.result) = said ∙ sym (told c.flush_key.result) in
+    grind (arith, in_turn)

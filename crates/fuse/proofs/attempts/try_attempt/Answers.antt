@@ -1,9 +1,19 @@
 -- `fuse::attempts::try_attempt` meets its contract: what runs on the cleared scratch is the attempt. Assumes nothing.
-use Rattle.fuse.proofs.Trying.{can_run, tried}
+use Rattle.fuse.proofs.Trying.{slots_room, can_run, tried}
 use Rattle.fuse.proofs.attempts.try_attempt.Goals as goal
 
-pub run-requires : goal.run-requires
-run-requires c = can_run c.requires _ c.clear_u16.ensures c.clear_u64.ensures c.descriptor_at-d.ensures
+pub segments_of-requires : goal.segments_of-requires
+segments_of-requires c = slots_room _ c.requires.few c.descriptor_at-d.ensures
 
-pub returns : goal.returns
-returns c = tried c.requires _ c.clear_u16.ensures c.clear_u64.ensures c.descriptor_at-d.ensures c.run.ensures
+pub run-requires : goal.run-requires
+run-requires c =
+    let cleared = c.clear_sums.ensures in
+    let segments = c.segments_of.ensures in
+    can_run c.requires _ cleared.same cleared.counts cleared.sums c.descriptor_at-d.ensures segments.length segments.mask segments.span
+
+pub returns-clause-picks : goal.returns-clause-picks
+returns-clause-picks c =
+    let cleared = c.clear_sums.ensures in
+    let segments = c.segments_of.ensures in
+    tried c.requires _ cleared.same cleared.counts cleared.sums c.descriptor_at-d.ensures segments.length segments.mask segments.span
+    c.run.ensures.picks

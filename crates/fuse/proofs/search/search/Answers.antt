@@ -1,5 +1,5 @@
 -- `fuse::search::search` meets its contract: what is to come from attempt i on is the whole search. Assumes nothing.
-use Rattle.std.proofs.Common.{arith}
+use Rattle.std.proofs.Common.{arith, rules}
 use Rattle.fuse.proofs.Searching.{none_left, found_one, go_on, no_hope}
 use Rattle.fuse.proofs.search.search.Goals as goal
 
@@ -9,7 +9,7 @@ loop-i-preserved c =
     record {
       from = omega arith;
       to = omega arith;
-      rest = go_on _ _ _ _ c.loop-i.invariant.rest (omega arith) _ _ _ c.try_attempt-taken.ensures c.if-taken-keys.false;
+      rest = go_on _ _ _ _ c.loop-i.invariant.rest (omega arith) _ _ _ c.try_attempt-taken.ensures.picks c.if-taken-keys.false;
       can = record {
         few = can.few;
         lone_length = omega arith;
@@ -18,14 +18,16 @@ loop-i-preserved c =
         positions_room = omega arith;
         order_room = omega arith;
       };
+      same = search rules;
+      starts = cc;
     }
 
-pub returns-then-last-i : goal.returns-then-last-i
-returns-then-last-i c = none_left _ _ _ _ c.loop-i.invariant.rest _ _ c.if-last-i.true
+pub returns-then-last-i-clause-sought : goal.returns-then-last-i-clause-sought
+returns-then-last-i-clause-sought c = none_left _ _ _ _ c.loop-i.invariant.rest _ _ c.if-last-i.true
 
-pub returns-then-taken-keys : goal.returns-then-taken-keys
-returns-then-taken-keys c =
-    found_one _ _ _ _ c.loop-i.invariant.rest (omega arith) _ _ _ c.try_attempt-taken.ensures c.if-taken-keys.true
+pub returns-then-taken-keys-clause-sought : goal.returns-then-taken-keys-clause-sought
+returns-then-taken-keys-clause-sought c =
+    found_one _ _ _ _ c.loop-i.invariant.rest (omega arith) _ _ _ c.try_attempt-taken.ensures.picks c.if-taken-keys.true
 
-pub returns-then-hopeless : goal.returns-then-hopeless
-returns-then-hopeless c = no_hope _ _ _ _ _ c.loop-i.invariant.can.few (c.hopeless.ensures c.if-hopeless.true)
+pub returns-then-hopeless-clause-sought : goal.returns-then-hopeless-clause-sought
+returns-then-hopeless-clause-sought c = no_hope _ _ _ _ _ c.loop-i.invariant.can.few (c.hopeless.ensures c.if-hopeless.true)

@@ -1,20 +1,12 @@
--- `plan::parts::on_parts` meets its contract: the search, the cleared tables, and its end. Assumes nothing.
+-- `plan::parts::on_parts` meets its contract: where an attempt was free, the tables are cleared. Assumes nothing.
 use Rattle.std.proofs.Common.{arith}
-use Rattle.plan.specs.Parts.{CanPlan}
-use Rattle.plan.proofs.Endings.{same_lengths, ends_found}
+use Rattle.plan.proofs.Endings.{still, ends_found}
 use Rattle.plan.proofs.parts.on_parts.Goals as goal
-use Rattle.plan.proofs.parts.on_parts.Goals.{After-clear_tables}
 
--- no buffer's length has changed
-still : (c : After-clear_tables) → let e = c.args in let after = c.search-found.new in
-    CanPlan e.keys.now e.first e.last e.slots after.lone after.counts after.sums after.positions after.order
-    e.starts.now
-still c =
-    let kept = c.search-found.auto in
-    same_lengths c.requires _ _ _ _ _ kept.lone kept.counts kept.sums kept.positions kept.order
-
-pub returns : goal.returns
-returns c =
-    let t = c.clear_tables.ensures in
-    ends_found (still (goal.at.returns c).After-clear_tables) c.search-found.ensures t.0 t.1 t.2 t.3 (omega arith)
-    c.descriptor_at.ensures
+pub returns-in-Some-clause-ended : goal.returns-in-Some-clause-ended
+returns-in-Some-clause-ended c =
+    let searched = c.in-Some.ensures in
+    let cleared = c.clear_tables.ensures in
+    rw (cleared.taken.0, cleared.taken.1)
+    (ends_found (still c.requires searched.same) searched.sought cleared.lone cleared.counts cleared.sums cleared.starts (omega (arith, searched.number))
+    c.descriptor_at-descriptor.ensures)

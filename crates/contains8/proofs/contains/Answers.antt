@@ -1,7 +1,0 @@
--- `contains8::contains` meets its contract: the answer of which `ask` told the number. Assumes nothing.
-use Rattle.std.proofs.Common.{◌∙◌}
-use Rattle.query.specs.ToldBack.{told_back}
-use Rattle.contains8.proofs.contains.Goals as goal
-
-pub returns : goal.returns
-returns c = c.answer.ensures ∙ told_back 8 c.args.d c.args.fingerprints.now c.args.key c.ask.ensures

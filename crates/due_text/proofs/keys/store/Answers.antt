@@ -1,0 +1,12 @@
+-- `due_text::keys::store`: a key that is listed already, and one that is not. Assumes nothing.
+use Rattle.std.proofs.Common.{sym, ap, ◌∙◌, Ok, arith}
+use Rattle.due_text.proofs.Stored.{again, stored}
+use Rattle.due_text.proofs.keys.store.Goals as goal
+
+pub returns-then-contains : goal.returns-then-contains
+returns-then-contains c =
+    again _ _ _ c.requires _ (sym c.read.ensures ∙ c.in_ok-key.was ∙ ap Ok c.in-Some.is) (omega arith) (sym c.contains.ensures.value ∙ c.if-contains.true)
+
+pub returns : goal.returns
+returns c =
+    stored _ _ _ c.requires _ (sym c.read.ensures ∙ c.in_ok-key.was ∙ ap Ok c.in-Some.is) (omega arith) (sym c.contains.ensures.value ∙ c.if-contains.false)

@@ -1,6 +1,0 @@
--- `marked::bits16::listed` is safe and ends: it goes up through the keys. Assumes nothing.
-use Rattle.std.proofs.Common.{◌-◌, length}
-use Rattle.marked.proofs.bits16.listed.Given as goal
-
-abbrev pub decreases-loop-i : goal.decreases-loop-i
-decreases-loop-i l = length l.keys - l.i

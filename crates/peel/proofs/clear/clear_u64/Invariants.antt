@@ -1,9 +1,0 @@
--- `peel::clear::clear_u64`: each turn sets one more element to zero.
-use Rattle.peel.proofs.Clearing.{Clearing, left}
-use Rattle.peel.proofs.clear.clear_u64.Given as goal
-
-abbrev pub invariant-loop-i : goal.invariant-loop-i
-invariant-loop-i l = Clearing l.fn.s l.s l.i
-
-abbrev pub decreases-loop-i : goal.decreases-loop-i
-decreases-loop-i l = left l.fn.s l.i
