@@ -71,19 +71,22 @@
  * A query needs the list alone: 20 + A bytes with 8 bits, 20 + 2 A with 16.
  *
  *   stack                          x86-64    aarch64
- *   a build                           568     17,024
+ *   a build                           600     17,024
+ *   a build that finds keys equal   3,784          -
  *   a query, or the flush key          32         32
  *
  * CODE AND TABLES, in bytes. An archive has a section for each function, so a program that is linked with
  * -Wl,--gc-sections gets only what it calls. Without that word it gets all five:
  *
  *                                  x86-64    aarch64
- *   the 8-bit query alone             367        328
- *   both queries and the flush key    879        764
- *   all five                       22,545     37,712
+ *   the 8-bit query alone             342        328
+ *   both queries and the flush key    822        764
+ *   all five                       26,777     37,712
  *
- * A build needs a table of 16,384 bytes, which is counted here. The numbers for aarch64 are of an archive that an
- * older kit made, in which a build copies the table to the stack; they were not measured again.
+ * A build needs a table of 16,384 bytes, which is counted here. A build looks for equal keys after its fourth
+ * attempt that failed, and at its end where none succeeded; the stack of that was measured on lists with two equal
+ * keys, in three orders, up to the limit. The numbers for aarch64 are of an archive that an older kit made, in which
+ * a build copies the table to the stack; they were not measured again.
  *
  * BUFFERS
  *

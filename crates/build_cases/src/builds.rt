@@ -5,7 +5,7 @@ use marked::buffers::{Buffer, Lent};
 use marked::call::build;
 use std::io;
 
-// What the most keys need is the most that any list needs, of bucket starts too. (Of these a limit of 4,096 keys needed half.)
+// What the most keys need is the most that any list needs, of bucket starts too. (With a limit of 4,096 keys half as many were needed.)
 const MOST: usize = MAX_KEYS as usize;
 
 fn most_keys(rt: &impl Print) -> io::Result<()> {

@@ -84,7 +84,7 @@ where
     F: FnOnce(&mut Scratch) -> Result<Built, Refusal>,
     requires { F.IsAlwaysCallable run }
 {
-    // Slices, since of an array that is lent in part through a struct the check wants its length shown anew before it is read.
+    // Slices and not arrays: when part of an array has been lent through a struct, the check wants its length proved anew.
     let lone: &mut [u32] = &mut [u32::from(MARK); LENGTH];
     let counts: &mut [u16] = &mut [u16::from(MARK); LENGTH];
     let sums: &mut [u64] = &mut [u64::from(MARK); LENGTH];

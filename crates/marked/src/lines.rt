@@ -51,7 +51,7 @@ fn built<W: Width>(
     let d = list.descriptor;
     let slots = (list.slots as usize).min(fingerprints.len());
     let fingerprints = &fingerprints[..slots];
-    let digest = samples::digest(fingerprints, slots);
+    let digest = samples::digest(fingerprints);
     let listed = keys
         .iter()
         .filter(|key| W::contains(d, fingerprints, **key) == Ok(true))

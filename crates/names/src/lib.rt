@@ -17,7 +17,8 @@ pub struct Seen {
     pub number: u64,
 }
 
-// A name with a 0 in it is not found, nor is one that is too long or not UTF-8: the system is asked of no other file.
+// A name with a 0 in it is not found, nor is one that is too long or not UTF-8: the system is asked of no other file. Two functions, one
+// for each call of the library: to hand the call in would be no shorter.
 
 // What the name itself is: at a link, the link.
 pub fn itself(rt: &impl Files, path: &[u8]) -> Option<Seen> {

@@ -13,7 +13,7 @@ use fill::fill;
 use fuse::attempts::segments_of;
 use plan::{Built, Plan};
 
-// The n keys taken are stored, and the room that they took is zeroed.
+// The n keys taken are stored, and the room that they took is zeroed. `n` stands beside the lists, as the order has one place more.
 fn write<F: Fingerprint>(
     d: Descriptor,
     n: usize,

@@ -7,7 +7,7 @@ ghost use Rattle.scratch.specs.Lent.{SameBuffers};
 ghost use Rattle.fuse.specs.Memory.{lent};
 ghost use Rattle.plan.specs.Plans.{Planned};
 
-mod clear;
+pub mod clear;
 mod parts;
 
 use answers::Refusal;

@@ -86,8 +86,8 @@ fn on_slices(
     on_parts(keys, first, last, slots, &mut parts)
 }
 
-// The same on the needed parts of what is lent. They become a scratch in a call of its own: made in this function, that scratch would be
-// written, but the proof would not see it.
+// The same on the needed parts of what is lent. They become a scratch in a call of its own: if it were made here, the proof would not
+// see what is written through it.
 pub fn on_needed(
     keys: &[u64],
     first: u32,

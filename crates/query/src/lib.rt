@@ -71,7 +71,7 @@ fn is_listed<F: Fingerprint>(d: Descriptor, fingerprints: &[F], key: u64) -> boo
 // Whether checks 8 to 11 pass, with this many fingerprints given.
 // For speed apart from `fault`, and in this form: 87 instructions a query; 91 as one `&&`, 92 with the refusal, 107 by `descriptor::check`.
 #[tactic(auto, using(crate::proofs::Tests::all_pass, crate::proofs::Tests::one_fails, std::proofs::lemmas::Bool::Decides::nat_tests))]
-fn suits(d: Descriptor, given: usize) -> bool
+pub fn suits(d: Descriptor, given: usize) -> bool
     ensures { result ≡ suits_of d given }
 {
     let segment = d.segment_length;

@@ -37,7 +37,8 @@ fn told<W: Width>(
     match answer {
         Ok(built) => {
             let d = built.descriptor;
-            let digest = samples::digest(fingerprints, built.slots as usize);
+            let slots = (built.slots as usize).min(fingerprints.len());
+            let digest = samples::digest(&fingerprints[..slots]);
             print!(rt;
                 " {} {} {} {digest}",
                 d.seed, d.segment_length, d.segment_count_length

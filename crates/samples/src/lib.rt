@@ -45,10 +45,9 @@ fn unmix64(hash: u64) -> u64 {
     b ^ (b >> 33)
 }
 
-// FNV-1a in 64 bits, of the first `size` fingerprints or of all where there are fewer.
-pub fn digest<W: Width>(fingerprints: &[W], size: usize) -> u64 {
+// FNV-1a in 64 bits.
+pub fn digest<W: Width>(fingerprints: &[W]) -> u64 {
     fingerprints
         .iter()
-        .take(size)
         .fold(OF_NOTHING, |digest, fingerprint| fingerprint.feed(digest))
 }
