@@ -7,6 +7,11 @@ use Rattle.descriptor.specs.declared.Descriptor.{Descriptor}
 use Rattle.descriptor.specs.Descriptor.{check_of}
 use Rattle.fuse.specs.Query.{fingerprints_for}
 
+-- no check looks at the seed
+abbrev pub unseeded : (segment mask span : ℕ) → Descriptor
+unseeded segment mask span =
+    record { seed = 0; segment_length = segment; segment_length_mask = mask; segment_count_length = span }
+
 abbrev pub passed? : Answer Done → Bool
 passed? (refuses number) = false
 passed? (gives value) = true
