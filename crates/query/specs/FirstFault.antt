@@ -1,5 +1,5 @@
--- What the functions that a query of any width calls promise: whether checks 8 to 11 pass, the refusal where they do not, and the answer of
--- which a C program is told a number. Assumes nothing.
+-- What the functions that a query of any width calls promise: whether checks 8 to 11 pass, the refusal where they do not; and the answer
+-- that the number tells which a C program is given. Assumes nothing.
 use Rattle.std.specs.Prelude.{Bool, true, false, not, cond, ℕ, eqb}
 use Rattle.answers.specs.Answers.{Answer, refuses, gives}
 use Rattle.answers.specs.Checks.{Done, refuse_if, ◌then◌}

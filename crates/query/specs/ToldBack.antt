@@ -1,4 +1,5 @@
--- The answer of a query, at any width, is the one of which its number is told. Assumes nothing.
+-- The answer of a query, at any width, is the one of which its number is told: `contains_told` promises that it can be read off the number.
+-- Assumes nothing.
 use Rattle.std.specs.Prelude.{◌≡◌, refl, Bool, true, false, not, cond, List, ℕ, ◌≤◌, eqb, length}
 use Rattle.std.proofs.Common.{sym, ap, ◌∙◌, arith, ne_eqb}
 use Rattle.answers.specs.Answers.{code_of, Answer, refuses, gives}
