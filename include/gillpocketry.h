@@ -71,8 +71,7 @@
  * A query needs the list alone: 20 + A bytes with 8 bits, 20 + 2 A with 16.
  *
  *   stack                          x86-64    aarch64
- *   a build                           600     17,024
- *   a build that finds keys equal   3,784          -
+ *   a build                           672     17,024
  *   a query, or the flush key          32         32
  *
  * CODE AND TABLES, in bytes. An archive has a section for each function, so a program that is linked with
@@ -81,12 +80,12 @@
  *                                  x86-64    aarch64
  *   the 8-bit query alone             342        328
  *   both queries and the flush key    822        764
- *   all five                       26,777     37,712
+ *   all five                       23,465     37,712
  *
- * A build needs a table of 16,384 bytes, which is counted here. A build looks for equal keys after its fourth
- * attempt that failed, and at its end where none succeeded; the stack of that was measured on lists with two equal
- * keys, in three orders, up to the limit. The numbers for aarch64 are of an archive that an older kit made, in which
- * a build copies the table to the stack; they were not measured again.
+ * A build needs a table of 16,384 bytes, which is counted here. Most builds take 600 bytes of stack; one that looks
+ * for equal keys, after four attempts that failed or at its end, takes 672, whatever the order of its keys: no
+ * function calls itself. The numbers for aarch64 are of an archive that an older kit made, in which a build copies
+ * the table to the stack; they were not measured again.
  *
  * BUFFERS
  *

@@ -1,9 +1,9 @@
 -- A line up to its comment: what stands before the first `#`. Assumes nothing.
-use Rattle.std.proofs.Common.{◌≡◌, refl, ap, ◌∙◌, ℕ, ◌+◌, Bool, true, false, cond, not, List, [], ◌∷◌, length, take, eqb, ltb, arith, ltb-false, add_comm, add-one}
-use Rattle.std.specs.Prelude.{Option, Some, None, unwrap_or}
+use Rattle.std.proofs.Common.{◌≡◌, refl, ap, ℕ, ◌+◌, Bool, true, false, cond, not, List, [], ◌∷◌, length, take, eqb, add_comm, add-one}
+use Rattle.std.specs.Prelude.{Option, unwrap_or}
 use Rattle.std.specs.List.{position, position_or_len}
-use Rattle.std.proofs.lemmas.List.Sums.{prefix_len-le-length}
 use Rattle.due_text.specs.Cut.{before_comment}
+use Rattle.due_text.proofs.Words.{end_of}
 
 -- how far the text goes, and whether that is short of its end
 place : (text : List ℕ) → ℕ
@@ -22,9 +22,4 @@ before_hash (byte ∷ rest) = by (eqb byte 35) (before_hash rest)
 pub up_to_comment : (text : List ℕ) {found : Option ℕ} {end : ℕ} → found ≡ position (λ b. eqb b 35) text → end ≡ unwrap_or found (length text)
     → take end text ≡ before_comment text
 unfolding place
-up_to_comment text p e = rw (e, p) (by (ltb (place text) (length text)) refl ∙ before_hash text)
-  where
-    by : (short : Bool) → ltb (place text) (length text) ≡ short
-        → take (unwrap_or (cond short (Some (place text)) None) (length text)) text ≡ take (place text) text
-    by true t = refl
-    by false t = let h : place text ≡ length text = omega (arith, ltb-false (place text) (length text) t, prefix_len-le-length (λ x. not (eqb x 35)) text) in rw h refl
+up_to_comment text p e = rw (end_of (λ b. eqb b 35) text p e) (before_hash text)

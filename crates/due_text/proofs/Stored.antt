@@ -6,6 +6,8 @@ use Rattle.std.proofs.Math.Seq.{length-take-le}
 use Rattle.std.proofs.lemmas.List.{take_more_set, drop-set-lt}
 use Rattle.answers.specs.declared.Refusal.TheVariants.{RepeatedKeys}
 use Rattle.repeats.specs.Repeats.{among?}
+use Rattle.due_text.specs.Cut.{cut, before_comment}
+use Rattle.due_text.specs.Line.{line_of}
 use Rattle.due_text.specs.Stored.{GoesOn, Stops}
 use Rattle.due_text.specs.declared.line.Fault.{Fault}
 use Rattle.due_text.specs.declared.line.Fault.TheVariants.{Refused, TooManyKeys}
@@ -14,6 +16,11 @@ listed : (key : ℕ) (keys : List ℕ) → list_any (λ (y : ℕ). nat_eq y key)
 unfolding among?
 listed key [] = refl
 listed key (other ∷ keys) = rw (listed key keys) refl
+
+pub says_nothing : (line : List ℕ) → length line ≡ 0 → line_of line ≡ Ok None
+unfolding line_of before_comment cut
+says_nothing [] e = refl
+says_nothing (byte ∷ rest) e = absurd (omega arith)
 
 module _ (said : Result (Option ℕ) Fault) (room : List ℕ) (count : ℕ) (places : count ≤ length room) where
   pub nothing : said ≡ Ok None → GoesOn said room room count count

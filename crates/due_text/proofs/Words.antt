@@ -1,59 +1,97 @@
--- The words of a line, one by one: the pieces between blank bytes that are not empty. Assumes nothing.
-use Rattle.std.proofs.Common.{◌≡◌, refl, sym, ap, ◌∙◌, ℕ, Bool, false, not, List, [], ◌∷◌, ◌++◌, length, eqb, ne_eqb, arith, inl, inr}
-use Rattle.std.specs.Prelude.{Option, Some, None}
-use Rattle.std.specs.List.{filter, slice_split}
-use Rattle.std.proofs.lemmas.Iterator.{YieldsList}
-use Rattle.std.proofs.lemmas.Iterator.Consumers.{YieldsList-from_filter}
-use Rattle.std.proofs.lemmas.Iterator.Splits.{YieldsList-from_slice_split}
-use Rattle.std.specs.Fn.{CalledAt}
-use Rattle.std.specs.Iterator.Adapters.{filter_steps, filter_source, filter_callee}
-use Rattle.std.specs.Slice.Iter.{split_steps, split_rest, split_done, split_callee}
-use Rattle.std.specs.declared.iter.Filter.{Filter}
-use Rattle.std.specs.declared.slice.Split.{Split}
-use denote.Param.Members.{Mut}
-use denote.Ref.{Bor}
-use Rattle.due_text.specs.Cut.{cut, blank?, without_empty, words_of}
-use Rattle.due_text.proofs.Pieces.{cut_as_split}
+-- The words of a line, one by one: blank bytes in front are passed, and a word ends at the next blank byte. Assumes nothing.
+use Rattle.std.proofs.Common.{◌≡◌, refl, ◌∙◌, ℕ, ◌+◌, ◌≤◌, ◌<◌, Bool, true, false, cond, not, List, [], ◌∷◌, length, take, drop, ltb, arith, ltb-true, ltb-false, add_comm, add-one}
+use Rattle.std.specs.Prelude.{Option, Some, None, unwrap_or}
+use Rattle.std.specs.List.{position, position_or_len}
+use Rattle.std.proofs.Math.ListN.{drop_of_length-le}
+use Rattle.std.proofs.lemmas.List.Sums.{prefix_len-le-length}
+use Rattle.due_text.specs.Cut.{cut, in_front, blank?, without_empty, words_of}
 
--- the test of a piece that is kept
-abbrev pub some? : List ℕ → Bool
-some? piece = not (eqb (length piece) 0)
+abbrev pub solid? : ℕ → Bool
+solid? byte = not (blank? byte)
 
-kept : (pieces : List (List ℕ)) → filter some? pieces ≡ without_empty pieces
-kept [] = refl
-kept ([] ∷ more) = kept more
-kept ((byte ∷ rest) ∷ more) =
-    let long : eqb (length (byte ∷ rest)) 0 ≡ false = ne_eqb (length (byte ∷ rest)) 0 (λ z. omega arith) in
-    rw long (ap (λ (words : List (List ℕ)). (byte ∷ rest) ∷ words) (kept more))
+-- how many bytes stand before the first word, and how many before the first blank
+abbrev before_word : List ℕ → ℕ
+before_word text = position_or_len solid? text
 
-none_at_end : (pieces : List (List ℕ)) → without_empty (pieces ++ [] ∷ []) ≡ without_empty pieces
-none_at_end [] = refl
-none_at_end ([] ∷ more) = none_at_end more
-none_at_end ((byte ∷ rest) ∷ more) = ap (λ (words : List (List ℕ)). (byte ∷ rest) ∷ words) (none_at_end more)
+abbrev before_blank : List ℕ → ℕ
+before_blank text = position_or_len blank? text
 
-pub words_kept : (line : List ℕ) → filter some? (slice_split blank? line) ≡ words_of line
-words_kept line = kept (slice_split blank? line) ∙ elim (cut_as_split blank? line) [
-  | inl e ↦ ap without_empty e
-  | inr e ↦ ap without_empty e ∙ none_at_end (cut blank? line)
-]
+-- blank bytes in front of the words do not count
+past_blanks : (text : List ℕ) → words_of text ≡ words_of (drop (before_word text) text)
+unfolding cut
+past_blanks [] = refl
+past_blanks (byte ∷ rest) = by (blank? byte) refl (past_blanks rest)
+  where
+    by : (b : Bool) → blank? byte ≡ b → words_of rest ≡ words_of (drop (before_word rest) rest)
+        → words_of (byte ∷ rest) ≡ words_of (drop (cond (not (not b)) (1 + before_word rest) 0) (byte ∷ rest))
+    by true t e = rw (add_comm 1 (before_word rest), add-one, t) e
+    by false t e = refl
 
--- what the words of a line give, one after the other
-module _ {F G : Type 0} {g : Mut F (Bor ℕ × Unit {0}) Bool} {h : Mut G (Bor (Bor (List ℕ)) × Unit {0}) Bool} {s : Filter (Split ℕ F) G} where
-  pub words_from : (r : Option (Bor (List ℕ))) (t : Filter (Split ℕ F) G) → filter_steps (split_steps g) h s r t → (line : List ℕ) → split_rest (filter_source s) ≡ line → split_done (filter_source s) ≡ false
-      → ((x : ℕ) (b : Bool) (q : F) → CalledAt g (split_callee (filter_source s)) x b q → (q ≡ split_callee (filter_source s)) × (b ≡ blank? x))
-      → ((x : Bor (List ℕ)) (b : Bool) (q : G) → CalledAt h (filter_callee s) x b q → (q ≡ filter_callee s) × (b ≡ some? x.now))
-      → YieldsList (filter_steps (split_steps g) h) (λ x. x.now) s (words_of line)
-  words_from r t gave line from fresh blanks somes =
-      rw (← words_kept line) (YieldsList-from_filter h some? (YieldsList-from_slice_split g blank? line from fresh refl blanks) refl somes)
+no_words : words_of [] ≡ []
+unfolding cut
+no_words = refl
 
--- a call that gives nothing, and one that gives the first of those to come
-module _ {S A B : Type 0} {steps : S → Option A → S → Type 0} {v : A → B} {s t : S} {r : Option A} where
-  pub none_left : (ys : List B) → YieldsList steps v s ys → steps s r t → r ≡ None → ys ≡ []
-  none_left [] y gave e = refl
-  none_left (first ∷ more) y gave e = absurd (y.runs.0 t (rw e at gave))
+longer : (byte : ℕ) (pieces : List (List ℕ)) {next : ℕ} {word : List ℕ} {more : List (List ℕ)}
+    → without_empty (in_front next pieces) ≡ (next ∷ word) ∷ more → without_empty (in_front byte (in_front next pieces)) ≡ (byte ∷ next ∷ word) ∷ more
+longer byte [] e = cc
+longer byte (piece ∷ pieces) e = cc
 
-  pub one_given : (ys : List B) {x : A} → YieldsList steps v s ys → steps s r t → r ≡ Some x → (more : List B) × (ys ≡ v x ∷ more) × YieldsList steps v t more
-  one_given [] {x} y gave e = absurd (y.runs x t (rw e at gave))
-  one_given (first ∷ more) {x} y gave e =
-      let k = y.runs.1 x t (rw e at gave) in
-      (more, ap (λ (b : B). b ∷ more) (sym k.0), record { runs = k.1 })
+-- a word that begins with this byte goes on to the first blank
+begun : (byte : ℕ) (text : List ℕ) → without_empty (in_front byte (cut blank? text)) ≡ (byte ∷ take (before_blank text) text) ∷ words_of (drop (before_blank text) text)
+unfolding cut
+begun byte [] = refl
+begun byte (next ∷ rest) = by (blank? next) refl (begun next rest)
+  where
+    by : (b : Bool) → blank? next ≡ b
+        → without_empty (in_front next (cut blank? rest)) ≡ (next ∷ take (before_blank rest) rest) ∷ words_of (drop (before_blank rest) rest)
+        → let k = cond (not b) (1 + before_blank rest) 0 in
+        without_empty (in_front byte (cond b ([] ∷ cut blank? rest) (in_front next (cut blank? rest)))) ≡ (byte ∷ take k (next ∷ rest)) ∷ words_of (drop k (next ∷ rest))
+    by true t e = rw t refl
+    by false t e = rw (add_comm 1 (before_blank rest), add-one) (longer byte (cut blank? rest) e)
+
+one_word : (text : List ℕ) → before_word text < length text
+    → let here = drop (before_word text) text in
+    words_of here ≡ take (before_blank here) here ∷ words_of (drop (before_blank here) here)
+unfolding cut
+one_word [] h = absurd (omega arith)
+one_word (byte ∷ rest) h = by (blank? byte) refl (one_word rest) h
+  where
+    by : (b : Bool) → blank? byte ≡ b
+        → (before_word rest < length rest
+        → let here = drop (before_word rest) rest in
+        words_of here ≡ take (before_blank here) here ∷ words_of (drop (before_blank here) here))
+        → cond (not (not b)) (1 + before_word rest) 0 < length (byte ∷ rest)
+        → let here = drop (cond (not (not b)) (1 + before_word rest) 0) (byte ∷ rest) in
+        words_of here ≡ take (before_blank here) here ∷ words_of (drop (before_blank here) here)
+    by true t e h = rw (add_comm 1 (before_word rest), add-one) (e (omega arith))
+    by false t e h = rw (t, add_comm 1 (before_blank rest), add-one) (begun byte rest)
+
+-- how far a text goes: to the first byte that passes, or to its end
+pub end_of : (test : ℕ → Bool) (text : List ℕ) {found : Option ℕ} {end : ℕ} → found ≡ position test text → end ≡ unwrap_or found (length text) → end ≡ position_or_len test text
+end_of test text p e = rw (e, p) (by (ltb (position_or_len test text) (length text)) refl)
+  where
+    by : (short : Bool) → ltb (position_or_len test text) (length text) ≡ short
+        → unwrap_or (cond short (Some (position_or_len test text)) None) (length text) ≡ position_or_len test text
+    by true t = refl
+    by false t = omega (arith, ltb-false (position_or_len test text) (length text) t, prefix_len-le-length (λ x. not (test x)) text)
+
+pub none_left : (text : List ℕ) → position solid? text ≡ None → words_of text ≡ []
+none_left text p = by (ltb (before_word text) (length text)) refl p
+  where
+    by : (short : Bool) → ltb (before_word text) (length text) ≡ short → cond short (Some (before_word text)) None ≡ None → words_of text ≡ []
+    by true t e = cc
+    by false t e =
+        let h : length text ≤ before_word text = ltb-false (before_word text) (length text) t in
+        past_blanks text ∙ rw (drop_of_length-le text {i = before_word text} h) no_words
+
+pub one_given : (text : List ℕ) {start end : ℕ} {rest : List ℕ} → position solid? text ≡ Some start → rest ≡ drop start text → end ≡ before_blank rest
+    → words_of text ≡ take end rest ∷ words_of (drop end rest)
+one_given text {start} {end} {rest} p r e = by (ltb (before_word text) (length text)) refl p
+  where
+    by : (short : Bool) → ltb (before_word text) (length text) ≡ short → cond short (Some (before_word text)) None ≡ Some start
+        → words_of text ≡ take end rest ∷ words_of (drop end rest)
+    by true t s =
+        let h : before_word text < length text = ltb-true (before_word text) (length text) t in
+        let is : before_word text ≡ start = cc in
+        rw (e, r, ← is) (past_blanks text ∙ one_word text h)
+    by false t s = cc

@@ -1,5 +1,5 @@
 // One line of the text.
-ghost use Rattle.std.specs.Prelude.{◌≡◌};
+ghost use Rattle.std.specs.Prelude.{◌≡◌, [], ◌∷◌, MatchOption};
 ghost use Rattle.due_text.specs.Decimal.{number_of};
 ghost use Rattle.due_text.specs.Cut.{blank?, before_comment, words_of};
 ghost use Rattle.due_text.specs.Line.{line_of, said_by, plain_of, due_of, up_to, fault_of};
@@ -37,22 +37,29 @@ pub fn read(text: &[u8]) -> Result<Option<u64>, Fault>
 fn said(text: &[u8]) -> Result<Option<u64>, Fault>
     ensures { result ≡ said_by (words_of text.now) }
 {
-    let mut words = text
-        .split(|byte| is_blank(*byte))
-        .filter(|word| !word.is_empty());
-    let Some(first) = words.next() else {
+    let Some((first, rest)) = first_word(text) else {
         return Ok(None);
     };
-    let Some(second) = words.next() else {
+    let Some((second, rest)) = first_word(rest) else {
         return plain(first).map(Some);
     };
-    let Some(third) = words.next() else {
+    let Some((third, rest)) = first_word(rest) else {
         return Err(Fault::WordCount);
     };
-    match words.next() {
+    match first_word(rest) {
         None => due(first, second, third).map(Some),
         Some(_) => Err(Fault::WordCount),
     }
+}
+
+// The first word, and what stands behind it. Not by `split`, which makes an empty piece of each blank byte in a run.
+fn first_word(text: &[u8]) -> Option<(&[u8], &[u8])>
+    ensures { MatchOption result (words_of text.now ≡ []) (λ cut. words_of text.now ≡ cut.0.now ∷ words_of cut.1.now) }
+{
+    let start = text.iter().position(|byte| !is_blank(*byte))?;
+    let rest = &text[start..];
+    let blank = rest.iter().position(|byte| is_blank(*byte));
+    Some(rest.split_at(blank.unwrap_or(rest.len())))
 }
 
 // Not `is_ascii_whitespace`, which takes a form feed too: by the definition `blank?` it is none.

@@ -2,7 +2,7 @@
 #![tactic(auto)]
 
 ghost use Rattle.files.specs.Prefix.{IsPrefixLen};
-ghost use Rattle.std.specs.Prelude.{◌≡◌, IfOk, IfSome};
+ghost use Rattle.std.specs.Prelude.{◌≡◌, MatchResult};
 ghost use Rattle.std.specs.Result.{result_ok};
 
 use arrayvec::ArrayString;
@@ -12,25 +12,17 @@ use std::rt::Files;
 use std::{fmt, fs, io};
 
 // A file's bytes at the start of the room, which has one place more than a file may fill: how many. If they are not whole, it is
-// said why.
-pub fn read<R: Files + Eprint>(rt: &R, path: &[u8], room: &mut [u8]) -> Option<usize>
-    ensures { IfSome result (λ count. IsPrefixLen count room.new) }
+// said why, and `Err` has how many came before a read failed; it has 0 of what was not opened, or is too long.
+pub fn read<R: Files + Eprint>(rt: &R, path: &[u8], room: &mut [u8]) -> Result<usize, usize>
+    ensures { MatchResult result (λ count. IsPrefixLen count room.new) (λ count. IsPrefixLen count room.new) }
 {
     // A pipe might keep it waiting for ever, and a device never end.
     if names::led_to(rt, path).is_some_and(|there| there.is_special()) {
         not_plain(rt, path);
-        return None;
+        return Err(0);
     }
-    let mut file = or_say(rt, path, open(rt, path))?;
-    let count = or_say(rt, path, fill(&mut file, room))?;
-    if count.is_none() {
-        say(
-            rt,
-            path,
-            format_args!("not shorter than {} bytes", room.len()),
-        );
-    }
-    count
+    let mut file = or_say(rt, path, open(rt, path)).ok_or(0usize)?;
+    fill(rt, &mut file, path, room)
 }
 
 fn open<R: Files>(rt: &R, path: &[u8]) -> io::Result<R::File> {
@@ -42,20 +34,30 @@ pub fn name(path: &[u8]) -> io::Result<&str> {
     str::from_utf8(path).map_err(|_| io::Error::from(io::ErrorKind::InvalidInput))
 }
 
-// How many bytes came until the file ended, if it ended before the room was full.
-fn fill(file: &mut impl Read, room: &mut [u8]) -> io::Result<Option<usize>>
-    ensures { IfOk result (λ ended. IfSome ended (λ count. IsPrefixLen count room.new)) }
+// As `read`, of a file that is open.
+fn fill(
+    rt: &impl Eprint,
+    file: &mut impl Read,
+    path: &[u8],
+    room: &mut [u8],
+) -> Result<usize, usize>
+    ensures { MatchResult result (λ count. IsPrefixLen count room.new) (λ count. IsPrefixLen count room.new) }
 {
     // No `for`: how far a read comes is known only after it.
     let mut count = 0;
     while count < room.len() {
-        let n = file.read(&mut room[count..])?;
+        let n = or_say(rt, path, file.read(&mut room[count..])).ok_or(count)?;
         if n == 0 {
-            return Ok(Some(count));
+            return Ok(count);
         }
         count += n;
     }
-    Ok(None)
+    say(
+        rt,
+        path,
+        format_args!("not shorter than {} bytes", room.len()),
+    );
+    Err(0)
 }
 
 pub fn not_plain(rt: &impl Eprint, path: &[u8]) {

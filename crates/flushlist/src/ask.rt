@@ -26,7 +26,7 @@ pub fn run<R: Files + Print + Eprint>(
 // Whether the key is due, by the file with the list. If the file does not answer, it is said why.
 fn answer<R: Files + Eprint>(rt: &R, list: &str, key: u64) -> Option<bool> {
     let mut room = held::list_room();
-    let n = files::read(rt, list.as_bytes(), &mut room)?;
+    let n = files::read(rt, list.as_bytes(), &mut room).ok()?;
     held::asked(&room[..n], key)
         .map_err(|why| messages::refused_list(rt, list, why))
         .ok()

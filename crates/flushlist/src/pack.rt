@@ -60,7 +60,7 @@ impl fmt::Display for Packed {
 fn pack<R: Files + Eprint + RandomSource>(rt: &R, text: &str, list: &str) -> Option<Packed> {
     saving::may_replace(rt, text.as_bytes(), list.as_bytes())?;
     let mut room = text_room();
-    let n = files::read(rt, text.as_bytes(), &mut room)?;
+    let n = files::read(rt, text.as_bytes(), &mut room).ok()?;
     pack_text(rt, &room[..n], list)
 }
 
@@ -117,7 +117,7 @@ fn save<R: Files + Eprint + RandomSource>(
 // That the file that now has the name answers yes to every key. It may be another program's; then it is said.
 fn read_back<R: Files + Eprint>(rt: &R, list: &str, keys: &[u64]) -> Option<()> {
     let mut room = held::list_room();
-    let Some(n) = files::read(rt, list.as_bytes(), &mut room) else {
+    let Ok(n) = files::read(rt, list.as_bytes(), &mut room) else {
         messages::not_read_back(rt, list);
         return None;
     };

@@ -5,7 +5,7 @@ use borrow.Author.Tests.{eqb-false, ltb-false}
 use Rattle.std.proofs.Math.Dec.{ltb}
 use Rattle.std.proofs.lemmas.Bool.{or_parts}
 use Rattle.answers.specs.Answers.{Answer, refuses, gives}
-use Rattle.answers.specs.Checks.{Done, done}
+use Rattle.answers.specs.Checks.{Done, done, refuse_if, ◌then◌}
 use Rattle.answers.specs.Never.{never}
 use Rattle.capacity.specs.Capacity.{max_keys}
 use Rattle.layout.specs.Layout.{slot_count_of, bucket_starts_of}
@@ -23,6 +23,18 @@ pub record Passed (n limit fingerprints lone counts sums positions order starts 
   pub in_positions : n ≤ positions
   pub in_order : n + 1 ≤ order
   pub in_starts : bucket_starts_of n ≤ starts
+
+neither : (a b : Bool) → a || b ≡ false → (a ≡ false) × (b ≡ false)
+neither = or_parts
+
+refused_up_to : (bound : ℕ) (fault : Bool) (number : ℕ) (next : Answer Done) → number ≤ bound → ((k : ℕ) → next ≡ refuses k → k ≤ bound)
+    → (k : ℕ) → refuse_if fault number then next ≡ refuses k → k ≤ bound
+refused_up_to bound true number next h rest k e = let z : number ≡ k = cc in omega arith
+refused_up_to bound false number next h rest k e = rest k e
+
+last_number : (fault : Bool) (number k : ℕ) → refuse_if fault number ≡ refuses k → k ≤ number
+last_number true number k e = let z : number ≡ k = cc in omega arith
+last_number false number k e = never cc
 
 module _ (n limit fingerprints lone counts sums positions order starts : ℕ) where
   abbrev checks : Answer Done

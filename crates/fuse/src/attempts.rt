@@ -1,5 +1,5 @@
 // The attempts on a list of keys, by their numbers from 1.
-ghost use Rattle.std.specs.Prelude.{◌≡◌, ◌+◌, ◌*◌, ◌^◌, ◌<◌, ◌≤◌};
+ghost use Rattle.std.specs.Prelude.{◌≡◌, length, ◌+◌, ◌*◌, ◌^◌, ◌<◌, ◌≤◌};
 ghost use Rattle.scratch.specs.Lent.{SameBuffers};
 ghost use Rattle.capacity.specs.Capacity.{max_keys};
 ghost use Rattle.layout.specs.Layout.{slot_count_of};
@@ -51,8 +51,10 @@ pub fn segments_of(d: Descriptor) -> Segments
 }
 
 // One attempt by its number, whatever the scratch holds. Returns how many keys are taken; `order` and `positions` begin with them.
+// No bucket starts are lent: no attempt looks at them.
 pub fn try_attempt(keys: &[u64], number: u32, scratch: &mut Scratch) -> usize
-    requires { CanAttempt keys.now scratch.old.lone.now scratch.old.counts.now scratch.old.sums.now scratch.old.positions.now scratch.old.order.now }
+    requires no_starts { length scratch.old.starts.now ≡ 0 }
+    requires can { CanAttempt keys.now scratch.old.lone.now scratch.old.counts.now scratch.old.sums.now scratch.old.positions.now scratch.old.order.now }
     ensures same { SameBuffers scratch.old scratch.new }
     ensures starts { scratch.new.starts.now ≡ scratch.old.starts.now }
     ensures picks { picks_in result scratch.new.order.now scratch.new.positions.now ≡ picks_at keys.now number }

@@ -27,7 +27,8 @@ fn hopeless(keys: &[u64], stuck: u32, order: &mut [u64]) -> bool
 
 // The number of the first free attempt. Where there is one, `order` and `positions` hold the keys that it took.
 pub fn search(keys: &[u64], first: u32, last: u32, scratch: &mut Scratch) -> Option<u32>
-    requires { CanSeek keys.now first last scratch.old.lone.now scratch.old.counts.now scratch.old.sums.now scratch.old.positions.now scratch.old.order.now }
+    requires no_starts { length scratch.old.starts.now ≡ 0 }
+    requires can { CanSeek keys.now first last scratch.old.lone.now scratch.old.counts.now scratch.old.sums.now scratch.old.positions.now scratch.old.order.now }
     ensures same { SameBuffers scratch.old scratch.new }
     ensures starts { scratch.new.starts.now ≡ scratch.old.starts.now }
     ensures number { IfSome result (λ i. first ≤ i) }

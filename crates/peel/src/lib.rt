@@ -21,9 +21,10 @@ use sums::Sums;
 use taken::Taken;
 
 // One attempt, where counts and sums are clear. Returns how many keys are taken; `order` and `positions` begin with them, the first taken
-// first. What the other buffers hold then is not said: the caller clears them.
+// first. What the other buffers hold then is not said: the caller clears them. No bucket starts are lent: an attempt has no use for them.
 pub fn run(keys: &[u64], seed: u64, segments: Segments, scratch: &mut Scratch) -> usize
-    requires { CanRun segments.length segments.mask segments.span keys.now scratch.old.lone.now scratch.old.counts.now scratch.old.sums.now scratch.old.order.now scratch.old.positions.now }
+    requires no_starts { length scratch.old.starts.now ≡ 0 }
+    requires can { CanRun segments.length segments.mask segments.span keys.now scratch.old.lone.now scratch.old.counts.now scratch.old.sums.now scratch.old.order.now scratch.old.positions.now }
     ensures same { SameBuffers scratch.old scratch.new }
     ensures starts { scratch.new.starts.now ≡ scratch.old.starts.now }
     ensures picks { picks_in result scratch.new.order.now scratch.new.positions.now

@@ -28,11 +28,11 @@ found_built w keys (suc i) m some = refl
 cleared : {needed : ℕ} (before : List ℕ) {after : List ℕ} → length before ≡ needed → after ≡ zeros before → after ≡ replicate needed 0
 cleared before is e = e ∙ ap (λ (k : ℕ). replicate k 0) is
 
--- what can be planned on still can where only lengths are kept
-pub still : {keys : List ℕ} {first last slots : ℕ} {before after : Scratch}
-    → CanPlan keys first last slots before.lone.now before.counts.now before.sums.now before.positions.now before.order.now before.starts.now
+-- what can be planned on still can where only lengths are kept; the bucket starts stand beside it
+pub still : {keys starts : List ℕ} {first last slots : ℕ} {before after : Scratch}
+    → CanPlan keys first last slots before.lone.now before.counts.now before.sums.now before.positions.now before.order.now starts
     → SameBuffers before after
-    → CanPlan keys first last slots after.lone.now after.counts.now after.sums.now after.positions.now after.order.now after.starts.now
+    → CanPlan keys first last slots after.lone.now after.counts.now after.sums.now after.positions.now after.order.now starts
 still can same =
     let seek = can.can_seek in
     record {
@@ -54,7 +54,7 @@ still can same =
       slots_are = can.slots_are;
       positions_length = same.positions_length ∙ can.positions_length;
       order_length = same.order_length ∙ can.order_length;
-      starts_length = same.starts_length ∙ can.starts_length;
+      starts_length = can.starts_length;
     }
 
 -- the lists as the search left them, and the tables cleared then

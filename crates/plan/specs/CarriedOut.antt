@@ -1,5 +1,5 @@
 -- What a filter of w bits did is its plan carried out, in one of three ways, and with the rest of the scratch it is what the definition says. The proof of
--- each width cites these laws. Assumes nothing.
+-- `packing::carry_out`, at any width, cites these laws. Assumes nothing.
 use Rattle.std.specs.Prelude.{◌≡◌, refl, List, [], ◌++◌, ℕ, ◌+◌, ◌-◌, ◌≤◌, length, take, drop, replicate, Result, Ok, Err}
 use Rattle.std.proofs.Common.{sym, ap, subst, ◌∙◌, length-take-le}
 use Rattle.answers.specs.declared.Refusal.{Refusal}

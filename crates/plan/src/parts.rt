@@ -32,22 +32,25 @@ fn none_found(keys: &[u64], slots: u32, scratch: &mut Scratch) -> Result<Plan, R
 }
 
 // Where an attempt was free, `order` and `positions` keep the keys that it took; all else is zeroed. The bucket starts are only zeroed:
-// no attempt looks at them.
+// they stand beside the scratch that the search is lent, as no attempt looks at them.
 fn on_parts(
     keys: &[u64],
     first: u32,
     last: u32,
     slots: u32,
-    scratch: &mut Scratch,
+    parts: &mut Scratch,
+    starts: &mut [u32],
 ) -> Result<Plan, Refusal>
-    requires { CanPlan keys.now first last slots scratch.old.lone.now scratch.old.counts.now scratch.old.sums.now scratch.old.positions.now scratch.old.order.now scratch.old.starts.now }
-    ensures same { SameBuffers scratch.old scratch.new }
-    ensures ended { Ended keys.now first last result (lent [] scratch.new) }
+    requires no_starts { length parts.old.starts.now ≡ 0 }
+    requires can { CanPlan keys.now first last slots parts.old.lone.now parts.old.counts.now parts.old.sums.now parts.old.positions.now parts.old.order.now starts.old }
+    ensures same { SameBuffers parts.old parts.new }
+    ensures ended { Ended keys.now first last result (scratch parts.new.lone.now parts.new.counts.now parts.new.sums.now parts.new.positions.now parts.new.order.now starts.new) }
 {
-    let found = search(keys, first, last, scratch);
-    clear_tables(scratch);
+    let found = search(keys, first, last, parts);
+    clear_tables(parts);
+    starts.fill(0);
     match found {
-        None => none_found(keys, slots, scratch),
+        None => none_found(keys, slots, parts),
         Some(attempt) => {
             let descriptor = descriptor_at(keys.len() as u32, attempt);
             Ok(Plan::Found(Built {
@@ -59,7 +62,7 @@ fn on_parts(
     }
 }
 
-// The same on six slices, which become one scratch.
+// The same on six slices. Five become one scratch.
 fn on_slices(
     keys: &[u64],
     first: u32,
@@ -81,9 +84,9 @@ fn on_slices(
         sums,
         positions,
         order,
-        starts,
+        starts: &mut [],
     };
-    on_parts(keys, first, last, slots, &mut parts)
+    on_parts(keys, first, last, slots, &mut parts, starts)
 }
 
 // The same on the needed parts of what is lent. They become a scratch in a call of its own: if it were made here, the proof would not

@@ -9,8 +9,8 @@ use Rattle.descriptor.specs.Lengths.{length_of, at_least, at_most}
 use Rattle.descriptor.specs.Masks.{mask_mod, length-test}
 use Rattle.descriptor.specs.Accepted.{accepted, accepts}
 use Rattle.fuse.specs.Query.{fingerprints_for}
-use Rattle.query.specs.FirstFault.{suits_of}
-use Rattle.query.specs.Suited.{both_passed}
+use Rattle.query.specs.FirstFault.{unseeded, suits_of}
+use Rattle.query.specs.Suited.{both_passed, seedless}
 
 pub record Tested (d : Descriptor) (given : ℕ) : Type 0 where
   pub whole : fingerprints_for d ≡ given
@@ -62,3 +62,13 @@ module _ (d : Descriptor) (given : ℕ) where
       told : (suits : Bool) → suits_of d given ≡ suits → false ≡ suits
       told false e = refl
       told true e = absurd (fault (passes e))
+
+  -- the same of the record without its seed
+  abbrev suits_unseeded : Bool
+  suits_unseeded = suits_of (unseeded d.segment_length d.segment_length_mask d.segment_count_length) given
+
+  pub all_pass_unseeded : Tested d given → true ≡ suits_unseeded
+  all_pass_unseeded t = all_pass t ∙ seedless d given
+
+  pub one_fails_unseeded : (Tested d given → ⊥) → false ≡ suits_unseeded
+  one_fails_unseeded fault = one_fails fault ∙ seedless d given

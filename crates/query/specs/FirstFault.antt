@@ -1,11 +1,16 @@
--- What the functions that a query of any width calls promise: whether checks 8 to 11 pass, the refusal where they do not, and the answer of
--- which a C program is told a number. Assumes nothing.
+-- What the functions that a query of any width calls promise: whether checks 8 to 11 pass, the refusal where they do not; and the answer
+-- that the number tells which a C program is given. Assumes nothing.
 use Rattle.std.specs.Prelude.{Bool, true, false, not, cond, ℕ, eqb}
 use Rattle.answers.specs.Answers.{Answer, refuses, gives}
 use Rattle.answers.specs.Checks.{Done, refuse_if, ◌then◌}
 use Rattle.descriptor.specs.declared.Descriptor.{Descriptor}
 use Rattle.descriptor.specs.Descriptor.{check_of}
 use Rattle.fuse.specs.Query.{fingerprints_for}
+
+-- no check looks at the seed
+abbrev pub unseeded : (segment mask span : ℕ) → Descriptor
+unseeded segment mask span =
+    record { seed = 0; segment_length = segment; segment_length_mask = mask; segment_count_length = span }
 
 abbrev pub passed? : Answer Done → Bool
 passed? (refuses number) = false

@@ -8,7 +8,7 @@ use Rattle.answers.specs.Checks.{Done, done, refuse_if, ◌then◌}
 use Rattle.descriptor.specs.declared.Descriptor.{Descriptor}
 use Rattle.descriptor.specs.Descriptor.{check_of}
 use Rattle.fuse.specs.Query.{yes?, fingerprints_for, accepts, contains_of}
-use Rattle.query.specs.FirstFault.{passed?, suits_of, first_fault}
+use Rattle.query.specs.FirstFault.{unseeded, passed?, suits_of, first_fault}
 
 -- of a descriptor and the fingerprints asked with it
 abbrev pub suits? : Descriptor → List ℕ → Bool
@@ -17,6 +17,12 @@ suits? d fingerprints = suits_of d (length fingerprints)
 -- the checks are document 01's
 pub suits_accepts : (d : Descriptor) (fingerprints : List ℕ) → suits? d fingerprints ≡ passed? (accepts d fingerprints)
 suits_accepts d fingerprints = refl
+
+-- and none of them looks at the seed
+pub seedless : (d : Descriptor) (given : ℕ)
+    → suits_of d given ≡ suits_of (unseeded d.segment_length d.segment_length_mask d.segment_count_length) given
+unfolding check_of
+seedless d given = refl
 
 -- ---- where they pass
 

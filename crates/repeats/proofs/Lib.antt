@@ -1,1 +1,4 @@
+pub mod Hole
+pub mod Front
+pub mod FromPlace
 pub mod Neighbours

@@ -6,7 +6,7 @@ use Rattle.peel.proofs.run.Goals as goal
 pub take_all-requires : goal.take_all-requires
 take_all-requires c =
     let counted = c.count_keys.ensures in
-    can_take_all c.args.segments c.args.seed c.args.keys.now c.requires counted.same counted.sums c.stack_lone.ensures refl
+    can_take_all c.args.segments c.args.seed c.args.keys.now c.requires.can counted.same counted.sums c.stack_lone.ensures refl
 
 pub returns-clause-picks : goal.returns-clause-picks
 returns-clause-picks c =

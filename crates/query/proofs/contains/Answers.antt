@@ -5,4 +5,4 @@ use Rattle.query.specs.Suited.{unsuited}
 use Rattle.query.proofs.contains.Goals as goal
 
 pub returns-then-not-suits : goal.returns-then-not-suits
-returns-then-not-suits g c = unsuited (g.F.Fingerprint.width) c.args.d (map (g.F.Fingerprint.bits) c.args.fingerprints.now) c.args.key (simp length-map c.suits.ensures) (ap not c.if-not-suits.true) c.fault.ensures
+returns-then-not-suits g c = unsuited (g.F.Fingerprint.width) c.args.d (map (g.F.Fingerprint.bits) c.args.fingerprints.now) c.args.key (simp length-map c.suits.ensures.checks) (ap not c.if-not-suits.true) c.fault.ensures

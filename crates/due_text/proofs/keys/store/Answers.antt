@@ -1,7 +1,10 @@
--- `due_text::keys::store`: a key that is listed already, and one that is not. Assumes nothing.
-use Rattle.std.proofs.Common.{sym, ap, ◌∙◌, Ok, arith}
-use Rattle.due_text.proofs.Stored.{again, stored}
+-- `due_text::keys::store`: a key that is listed already, one that is not, and an empty line. Assumes nothing.
+use Rattle.std.proofs.Common.{sym, ap, ◌∙◌, Ok, arith, rules}
+use Rattle.due_text.proofs.Stored.{says_nothing, nothing, again, stored}
 use Rattle.due_text.proofs.keys.store.Goals as goal
+
+pub returns-then-is_empty : goal.returns-then-is_empty
+returns-then-is_empty c = nothing _ _ _ c.requires (says_nothing c.args.line.now (search rules))
 
 pub returns-then-contains : goal.returns-then-contains
 returns-then-contains c =

@@ -8,5 +8,5 @@ returns-in-Some-clause-ended c =
     let searched = c.in-Some.ensures in
     let cleared = c.clear_tables.ensures in
     rw (cleared.taken.0, cleared.taken.1)
-    (ends_found (still c.requires searched.same) searched.sought cleared.lone cleared.counts cleared.sums cleared.starts (omega (arith, searched.number))
+    (ends_found (still c.requires.can searched.same) searched.sought cleared.lone cleared.counts cleared.sums (c.fill.ensures.after (λ y e. e)) (omega (arith, searched.number))
     c.descriptor_at-descriptor.ensures)
