@@ -16,4 +16,4 @@ left_over-requires g c =
 pub returns : goal.returns
 returns g c =
     let a = answered (g.F.Fingerprint.width) c.args.d (map (g.F.Fingerprint.bits) c.args.fingerprints.now) c.args.key c.requires c.mix-hash.ensures c.of_hash-own.ensures c.slots-slots.ensures in
-    cc a.listed
+    grind (arith, common_steps, a.listed)
