@@ -83,8 +83,8 @@
  *   all five                       23,465     37,712
  *
  * A build needs a table of 16,384 bytes, which is counted here. Most builds take 600 bytes of stack; one that looks
- * for equal keys, after four attempts that failed or at its end, takes 672, whatever the order of its keys: no
- * function calls itself. The numbers for aarch64 are of an archive that an older kit made, in which a build copies
+ * for equal keys, after four attempts that failed or at its end, takes 672, on every order of keys that was tried:
+ * no function calls itself. The numbers for aarch64 are of an archive that an older kit made, in which a build copies
  * the table to the stack; they were not measured again.
  *
  * BUFFERS
